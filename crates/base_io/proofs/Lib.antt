@@ -1,0 +1,5 @@
+pub mod CountLemmas
+pub mod FileLemmas
+pub mod HeldLemmas
+pub mod PieceLemmas
+pub mod StreamLemmas
