@@ -1,0 +1,7 @@
+pub mod Chain
+pub mod Names
+pub mod Order
+pub mod LeastOfAll
+pub mod Readings
+pub mod SameBoard
+pub mod Exact
