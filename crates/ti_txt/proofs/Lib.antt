@@ -1,0 +1,17 @@
+pub mod Again
+pub mod Appending
+pub mod Begins
+pub mod Complete
+pub mod Cut
+pub mod Filling
+pub mod Lex
+pub mod OneImage
+pub mod Placed
+pub mod Loading
+pub mod Run
+pub mod Simulates
+pub mod Sound
+pub mod Steps
+pub mod Swept
+pub mod Total
+pub mod Verdict
