@@ -1,0 +1,5 @@
+mod Shown
+mod Steady
+mod SteadyNodes
+mod Chain
+mod Store

@@ -1,0 +1,9 @@
+pub mod Layer
+pub mod Runs
+pub mod Nodes
+pub mod Meaning
+pub mod Laws
+pub mod Lines
+pub mod Stored
+pub mod Follows
+pub mod Said
