@@ -1,0 +1,6 @@
+pub mod Merging
+pub mod Extending
+pub mod Walking
+pub mod Bridge
+pub mod EverySet
+pub mod Numbered

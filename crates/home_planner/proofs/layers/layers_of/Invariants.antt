@@ -1,0 +1,13 @@
+use Rattle.std.proofs.Common.{◌≤◌, length, drop, reverse}
+use Rattle.home_planner.specs.Choices.{AreLayers, IsFrontier}
+use Rattle.home_planner.proofs.layers.layers_of.Given as goal
+
+abbrev pub invariant-loop-at : goal.invariant-loop-at
+invariant-loop-at l = record {
+  within : l.at ≤ length l.gains;
+  frontier : IsFrontier (drop l.at l.gains) l.room l.pairs.items;
+  layers : AreLayers (drop l.at l.gains) l.room (reverse l.layers.items);
+}
+
+abbrev pub decreases-loop-at : goal.decreases-loop-at
+decreases-loop-at l = l.at
