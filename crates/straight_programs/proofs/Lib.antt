@@ -1,0 +1,5 @@
+mod Digits
+mod Parts
+pub mod Spelling
+pub mod StraightLemmas
+mod Examples

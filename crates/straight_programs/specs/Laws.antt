@@ -1,0 +1,27 @@
+-- What holds of every program.
+use Rattle.std.specs.Prelude.{ℕ, ◌≡◌, ◌<◌, ◌≤◌, List}
+use Rattle.plain_meaning.specs.Behaviour.{Going, EndedWith, Begins, IsSteady}
+use Rattle.straight_programs.specs.declared.program.Statement.{Statement}
+use Rattle.straight_programs.specs.Text.{IsProgram}
+use Rattle.straight_programs.specs.Steps.{does, nodes_of}
+
+-- the words of a whole run
+abbrev pub all_words : List Statement → List ℕ → List ℕ
+all_words statements input = (does statements input (nodes_of statements)).words
+
+-- a text is of one list of statements at most
+abbrev pub HasOneList : Type 0
+HasOneList = (text : List ℕ) (a b : List Statement) → IsProgram text a → IsProgram text b → a ≡ b
+
+abbrev pub AreSteady : Type 0
+AreSteady = (statements : List Statement) → IsSteady (does statements)
+
+-- once each statement, declarator and expression is begun, the program has put all its words and ended with 0
+abbrev pub EndWithAll : Type 0
+EndWithAll = (statements : List Statement) (input : List ℕ) (n : ℕ) → nodes_of statements ≤ n
+    → does statements input n ≡ record { words = all_words statements input; outcome = EndedWith 0 }
+
+-- before that it goes on, with a front of them put
+abbrev pub GoOnBefore : Type 0
+GoOnBefore = (statements : List Statement) (input : List ℕ) (n : ℕ) → n < nodes_of statements
+    → ((does statements input n).outcome ≡ Going) × Begins (does statements input n).words (all_words statements input)

@@ -1,0 +1,22 @@
+//! Laws of the programs: each contract is one, and the functions do nothing.
+ghost use Rattle.straight_programs.specs.Laws.{AreSteady, EndWithAll, GoOnBefore, HasOneList};
+
+/// With more steps a program puts no other words, and what has ended stays as it is.
+pub fn are_steady()
+    ensures { AreSteady }
+{}
+
+/// After as many steps as it has statements, declarators and expressions a program has put all its words and ended with 0.
+pub fn end_with_all()
+    ensures { EndWithAll }
+{}
+
+/// With fewer steps it goes on, and has put a front of these words.
+pub fn go_on_before()
+    ensures { GoOnBefore }
+{}
+
+/// A text is of one list of statements at most.
+pub fn has_one_list()
+    ensures { HasOneList }
+{}
