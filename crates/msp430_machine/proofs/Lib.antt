@@ -1,0 +1,4 @@
+pub mod Examples
+pub mod Decoding
+pub mod Loading
+pub mod Held

@@ -1,0 +1,12 @@
+pub mod Addresses
+pub mod State
+pub mod Memory
+pub mod Operands
+pub mod Access
+pub mod Cost
+pub mod Execution
+pub mod Steps
+pub mod Wakes
+pub mod First
+pub mod Views
+pub mod Loading
