@@ -1,0 +1,4 @@
+pub mod Runs
+pub mod Agreement
+pub mod Enduring
+pub mod Cores
