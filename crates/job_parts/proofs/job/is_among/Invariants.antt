@@ -1,0 +1,11 @@
+use Rattle.std.proofs.Common.{◌≡◌, map, length}
+use Rattle.std.specs.List.{list_any}
+use Rattle.std.specs.Str.{bytes_eq}
+use Rattle.job_parts.proofs.job.is_among.Given as goal
+
+-- the word is among those that are left exactly where it is among all
+abbrev pub invariant-loop-rest : goal.invariant-loop-rest
+invariant-loop-rest l = list_any (λ w. bytes_eq w l.word) (map (λ s. s.now) l.rest) ≡ list_any (λ w. bytes_eq w l.word) (map (λ s. s.now) l.words)
+
+abbrev pub decreases-loop-rest : goal.decreases-loop-rest
+decreases-loop-rest l = length l.rest

@@ -1,0 +1,3 @@
+pub mod Supplies
+pub mod Boxes
+pub mod Rows
