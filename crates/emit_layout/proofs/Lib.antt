@@ -1,0 +1,16 @@
+pub mod LayoutLemmas
+pub mod WordBytes
+pub mod Instructions
+pub mod Dead
+pub mod Performing
+pub mod Operands
+pub mod Templates
+pub mod Stretches
+pub mod Opening
+pub mod StraightRunning
+pub mod Lowered
+pub mod StraightRuns
+pub mod StraightLoaded
+pub mod StraightCode
+pub mod StraightCosts
+pub mod Examples

@@ -1,0 +1,126 @@
+-- Instructions that load an operand, store a word in an object, take an input word, or add: what they do, put and cost.
+use Rattle.std.proofs.Common.{◌≡◌, ℕ, ◌/◌, ◌%◌, ◌<◌, true, false, List, Some, None, refl, ap, ◌∙◌, arith}
+use Rattle.std.specs.Prelude.{◌==◌, nat_lt, if◌then◌else◌, Bool, ◌&&◌, All, IsTrue}
+use Rattle.std.proofs.lemmas.List.Elements.{All-from_recursion}
+use Rattle.std.proofs.lemmas.Bool.Decides.{nat_tests}
+use Rattle.board_table.specs.declared.board.Board.{Board}
+use Rattle.msp430_isa.specs.declared.instr.Src.TheVariants.{Reg as FromReg, Abs as FromAbs, Imm, Short}
+use Rattle.msp430_isa.specs.declared.instr.Dst.TheVariants.{Reg as ToReg, Abs as ToAbs}
+use Rattle.msp430_isa.specs.declared.instr.TwoOp.TheVariants.{Add as ADD}
+use Rattle.msp430_isa.specs.declared.instr.Instr.{Instr}
+use Rattle.msp430_isa.specs.declared.instr.Instr.TheVariants.{Two}
+use Rattle.msp430_isa.specs.Profile.{is_constant, in_profile}
+use Rattle.msp430_machine.specs.declared.answer.Why.TheVariants.{Odd}
+use Rattle.msp430_machine.specs.Addresses.{Fram, region}
+use Rattle.msp430_machine.specs.State.{State, set_at, with_register}
+use Rattle.msp430_machine.specs.Memory.{word_in, read_in, after_read_in, written_in, put_in}
+use Rattle.msp430_machine.specs.Access.{AsSource, ByMove, access_fault, fault_in, first_of}
+use Rattle.msp430_machine.specs.Cost.{cost}
+use Rattle.msp430_machine.specs.Execution.{done, put_by}
+use Rattle.emit_layout.specs.Code.{move}
+use Rattle.emit_layout.specs.Need.{any_state}
+use Rattle.emit_layout.specs.Operations.{Operand, Constant, Object, Operation, Copy, Add, Input, Output, OperationFits, template, address_of, source_of, OperandFits}
+use Rattle.emit_layout.proofs.Performing.{word_of, operand_value}
+
+abbrev pub loads_to : ℕ → Operand → Instr
+loads_to r a = move (source_of a) (ToReg r)
+
+abbrev pub stores : ℕ → Instr
+stores to = move (FromReg 15) (ToAbs (address_of to))
+
+abbrev pub takes : Instr
+takes = move (FromAbs 0x0F00) (ToReg 15)
+
+abbrev pub adds : Instr
+adds = Two ADD false (FromReg 14) (ToReg 15)
+
+-- ---- Where an object stands
+
+pub in_fram : (k : ℕ) → k < 7680 → region (address_of k) ≡ Fram
+in_fram k low = grind (arith, nat_tests)
+
+pub is_even : (k : ℕ) → (address_of k % 2 == 1) ≡ false
+is_even k = let e : address_of k % 2 ≡ 0 = omega arith in grind (arith, nat_tests)
+
+half_of : (k : ℕ) → address_of k / 2 ≡ word_of k
+half_of k = omega arith
+
+is_word : (k : ℕ) → k < 7680 → nat_lt (address_of k) 65536 ≡ true
+is_word k low = grind (arith, nat_tests)
+
+number : (v : ℕ) → v < 65536 → nat_lt v 65536 ≡ true
+number v low = grind (arith, nat_tests)
+
+-- ---- A load
+
+abbrev by_source : Bool → ℕ → ℕ → Instr
+by_source c v r = move (if c then Short v else Imm v) (ToReg r)
+
+pub load_does : (input : List ℕ) (r : ℕ) (a : Operand) (s : State) → OperandFits a → done input (loads_to r a) s ≡ with_register s r (operand_value s.fram a)
+load_does input r (Constant v) s fits = elim (is_constant v) as (λ c. done input (by_source c v r) s ≡ with_register s r v) [ true ↦ refl | false ↦ refl ]
+load_does input r (Object k) s fits =
+    let there : done input (loads_to r (Object k)) s ≡ with_register s r (word_in (region (address_of k)) s (address_of k)) =
+    ap (λ g. with_register (after_read_in g s) r (read_in g input false s (address_of k))) (in_fram k fits) in
+    let found : with_register s r (word_in (region (address_of k)) s (address_of k)) ≡ with_register s r (s.fram (address_of k / 2)) =
+    ap (λ g. with_register s r (word_in g s (address_of k))) (in_fram k fits) in
+    there ∙ found ∙ ap (λ h. with_register s r (s.fram h)) (half_of k)
+
+pub load_puts : (input : List ℕ) (r : ℕ) (a : Operand) (s : State) → put_by input (loads_to r a) s ≡ None
+load_puts input r (Constant v) s = elim (is_constant v) as (λ c. put_by input (by_source c v r) s ≡ None) [ true ↦ refl | false ↦ refl ]
+load_puts input r (Object k) s = refl
+
+pub load_costs : (b : Board) (r : ℕ) (a : Operand) (s : State) → cost b s (loads_to r a) ≡ cost b any_state (loads_to r a)
+load_costs b r (Constant v) s = elim (is_constant v) as (λ c. cost b s (by_source c v r) ≡ cost b any_state (by_source c v r)) [ true ↦ refl | false ↦ refl ]
+load_costs b r (Object k) s = refl
+
+pub load_allowed : (r : ℕ) (a : Operand) (s : State) → OperandFits a → access_fault s (loads_to r a) ≡ None
+load_allowed r (Constant v) s fits = elim (is_constant v) as (λ c. access_fault s (by_source c v r) ≡ None) [ true ↦ refl | false ↦ refl ]
+load_allowed r (Object k) s fits =
+    ap (λ c. first_of (if c then Some Odd else fault_in (region (address_of k)) AsSource false (address_of k)) None) (is_even k)
+    ∙ ap (λ g. first_of (fault_in g AsSource false (address_of k)) None) (in_fram k fits)
+
+pub load_fits : (a : Operand) → OperandFits a → in_profile (loads_to 15 a) ≡ true
+load_fits (Constant v) low =
+    elim (is_constant v) as (λ c. is_constant v ≡ c → in_profile (by_source c v 15) ≡ true) [
+      | true ↦ λ e. ap (λ c. c && true && true && true && true && true && (true && true)) e
+      | false ↦ λ e. ap (λ c. c && true) (number v low)
+    ] refl
+load_fits (Object k) low = ap (λ c. c && true) (is_word k low)
+
+pub second_fits : (a : Operand) → OperandFits a → in_profile (loads_to 14 a) ≡ true
+second_fits (Constant v) low =
+    elim (is_constant v) as (λ c. is_constant v ≡ c → in_profile (by_source c v 14) ≡ true) [
+      | true ↦ λ e. ap (λ c. c && true && true && true && true && true && (true && true)) e
+      | false ↦ λ e. ap (λ c. c && true) (number v low)
+    ] refl
+second_fits (Object k) low = ap (λ c. c && true) (is_word k low)
+
+-- ---- A store
+
+pub store_does : (input : List ℕ) (to : ℕ) (s : State) → to < 7680 → done input (stores to) s ≡ record s { fram = set_at s.fram (word_of to) (s.reg 15) }
+store_does input to s low =
+    let there : done input (stores to) s ≡ record s { fram = set_at s.fram (address_of to / 2) (s.reg 15) } =
+    ap (λ g. written_in g s (address_of to) (s.reg 15)) (in_fram to low) in
+    there ∙ ap (λ h. record s { fram = set_at s.fram h (s.reg 15) }) (half_of to)
+
+pub store_puts : (input : List ℕ) (to : ℕ) (s : State) → to < 7680 → put_by input (stores to) s ≡ None
+store_puts input to s low = ap (λ g. put_in g (address_of to) (s.reg 15)) (in_fram to low)
+
+pub store_allowed : (to : ℕ) (s : State) → to < 7680 → access_fault s (stores to) ≡ None
+store_allowed to s low =
+    ap (λ c. if c then Some Odd else fault_in (region (address_of to)) ByMove false (address_of to)) (is_even to)
+    ∙ ap (λ g. fault_in g ByMove false (address_of to)) (in_fram to low)
+
+pub store_fits : (to : ℕ) → to < 7680 → in_profile (stores to) ≡ true
+store_fits to low = is_word to low
+
+-- ---- Templates are of the profile
+
+abbrev Is : Instr → Type 0
+Is i = IsTrue (in_profile i)
+
+pub template_is : (op : Operation) → OperationFits op → All (λ i. IsTrue (in_profile i)) (template op)
+template_is (Copy to a) fits = All-from_recursion Is (template (Copy to a)) (load_fits a fits.1, (store_fits to fits.0, tt))
+template_is (Add to a b) fits = All-from_recursion Is (template (Add to a b)) (load_fits a fits.1, (second_fits b fits.2, (refl, (store_fits to fits.0, tt))))
+template_is (Input to) fits = All-from_recursion Is (template (Input to)) (refl, (store_fits to fits, tt))
+template_is (Output a) fits = All-from_recursion Is (template (Output a)) (load_fits a fits, (refl, tt))

@@ -1,0 +1,95 @@
+ghost use Rattle.std.specs.Prelude.{◌≡◌, ◌++◌, false, flat_map, All, IsTrue, OnOk};
+ghost use Rattle.msp430_isa.specs.Encoding.{words_of};
+ghost use Rattle.msp430_isa.specs.Profile.{in_profile};
+ghost use Rattle.emit_layout.specs.Code.{boot, constant, finish, head};
+ghost use Rattle.emit_layout.specs.Layout.{bytes_of};
+
+use crate::bytes::put_words;
+use base_io::Memory;
+use msp430_isa::{Cond, Dst, Instr, Src, TwoOp, encode};
+
+pub const GATE: u16 = 0x1800;
+
+pub const RESUME: u16 = 0x1802;
+
+pub const SAVED_SP: u16 = 0x1804;
+
+pub const IN: u16 = 0x0F00;
+
+pub const OUT: u16 = 0x0F02;
+
+pub const END: u16 = 0x0F04;
+
+pub const TRAP: u16 = 0x0F06;
+
+pub fn two(op: TwoOp, src: Src, dst: Dst) -> Instr
+    ensures { result ≡ Instr.Two op false src dst }
+{
+    Instr::Two {
+        op,
+        byte: false,
+        src,
+        dst,
+    }
+}
+
+/// A constant, by a generator where one has it.
+pub fn constant(v: u16) -> Src
+    ensures { result ≡ constant v }
+{
+    match v {
+        0 | 1 | 2 | 4 | 8 | 0xFFFF => Src::Short(v),
+        _ => Src::Imm(v),
+    }
+}
+
+/// The first code of every wake but a warm one.
+pub fn boot() -> [Instr; 5]
+    ensures { result ≡ boot }
+{
+    [
+        two(TwoOp::Cmp, Src::Short(1), Dst::Abs(GATE)),
+        Instr::Jump {
+            on: Cond::Jne,
+            words: 4,
+        },
+        two(TwoOp::Mov, Src::Abs(SAVED_SP), Dst::Reg(1)),
+        two(TwoOp::Mov, Src::Abs(RESUME), Dst::Reg(0)),
+        two(TwoOp::Mov, Src::Short(4), Dst::Abs(TRAP)),
+    ]
+}
+
+/// A sleep that is resumed at the address.
+pub fn head(resume: u16) -> [Instr; 5]
+    ensures { result ≡ head resume }
+{
+    [
+        two(TwoOp::Mov, Src::Reg(1), Dst::Abs(SAVED_SP)),
+        two(TwoOp::Mov, Src::Imm(resume), Dst::Abs(RESUME)),
+        two(TwoOp::Mov, Src::Short(1), Dst::Abs(GATE)),
+        two(TwoOp::Bis, Src::Imm(16), Dst::Reg(2)),
+        two(TwoOp::Mov, Src::Short(0), Dst::Abs(GATE)),
+    ]
+}
+
+/// The program ends with the constant.
+pub fn finish(v: u16) -> [Instr; 2]
+    ensures { result ≡ finish v }
+{
+    [
+        two(TwoOp::Mov, constant(v), Dst::Reg(15)),
+        two(TwoOp::Mov, Src::Reg(15), Dst::Abs(END)),
+    ]
+}
+
+/// Appends the words of instructions of the profile.
+pub fn put_instructions(instructions: &[Instr], to: &mut Vec<u8>) -> Result<(), Memory>
+    requires { All (λ i. IsTrue (in_profile i)) instructions.now }
+    ensures { OnOk result (to.new.items ≡ to.old.items ++ bytes_of (flat_map words_of instructions.now)) }
+{
+    for instruction in instructions {
+        let words = encode(instruction);
+        put_words(&words.w[..words.len as usize], to)?;
+    }
+    Ok(())
+}

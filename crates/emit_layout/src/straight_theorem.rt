@@ -1,0 +1,14 @@
+//! What the images of programs of one stretch over variables keep.
+
+ghost use Rattle.emit_layout.specs.StraightTheorem.{AreStraightHeld, AreStraightImages, StraightImagesAgree, StraightImagesEndure};
+
+/// On every board whose budget has what the program needs, every run of the image over refills that each reach the budget shows
+/// what the program does and no more, and is never cut; on every board, under any refills, the image does no work behind a cut
+/// inside a stretch and never stops by a fault; its blocks ascend, don't touch, and lie in FRAM; and some first state holds it. For valid statements of at
+/// most 255 operations.
+pub fn straight_images_agree()
+    ensures agrees { StraightImagesAgree }
+    ensures endures { StraightImagesEndure }
+    ensures is_image { AreStraightImages }
+    ensures is_held { AreStraightHeld }
+{}
