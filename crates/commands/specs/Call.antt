@@ -1,0 +1,79 @@
+-- What a whole call comes to: how its job ends, and what is put of it.
+use Rattle.std.specs.Prelude.{◌≡◌, ◌≤◌, ◌⊎◌, ◌++◌, ℕ, List, [], length, take, Option, Some, None, ⊤}
+use Rattle.base_io.specs.Counts.{Rose}
+use Rattle.commands.specs.Words.{Text, Paths, asked}
+use Rattle.commands.specs.Answers.{Answer, write_fault, no_memory, not_built, line_of}
+use Rattle.commands.specs.Job.{Ends, IsUnwritten, Seen}
+use Rattle.commands.specs.Causes.{output}
+use Rattle.commands.specs.declared.status.Unbuilt.TheVariants.{Words}
+
+-- words without a reading touch no file
+pub record IsRefusedAtOnce (old new : Seen) (a : Answer) (line : Text) : Type 0 where
+  pub answer : a ≡ not_built Words
+  pub files : new.files ≡ old.files
+  pub writes : new.writes ≡ old.writes
+  pub reads : new.reads ≡ old.reads
+  pub tells : line ≡ line_of [] a
+
+-- how the job of the words ends
+abbrev pub ComesTo : Option Paths → Seen → Seen → Answer → Text → Type 0
+ComesTo None old new a line = IsRefusedAtOnce old new a line
+ComesTo (Some paths) old new a line = Ends paths old new a line
+
+-- there was no memory, before anything was written
+pub record IsGivenUp (old new : Seen) (a : Answer) (line : Text) : Type 0 where
+  pub answer : a ≡ no_memory
+  pub kept : IsUnwritten old new
+  pub tells : line ≡ line_of [] no_memory
+
+abbrev pub Comes : List Text → Seen → Seen → Answer → Text → Type 0
+Comes words old new a line = ComesTo (asked words) old new a line ⊎ IsGivenUp old new a line
+
+-- ---- The output: what it tells, and its count of faults
+
+pub record Sunk : Type 0 where
+  pub told : Option Text
+  pub faults : ℕ
+
+abbrev pub AllTold : Text → Option Text → Option Text → Type 0
+AllTold line (Some old) (Some new) = new ≡ old ++ line
+AllTold line None None = ⊤
+AllTold line (Some old) None = ⊥
+AllTold line None (Some new) = ⊥
+
+abbrev pub FrontTold : Text → Option Text → Option Text → Type 0
+FrontTold line (Some old) (Some new) = (n : ℕ) × (n ≤ length line) × (new ≡ old ++ take n line)
+FrontTold line None None = ⊤
+FrontTold line (Some old) None = ⊥
+FrontTold line None (Some new) = ⊥
+
+-- the line was put, and the answer is what the job came to
+pub record IsWholePut (came : Answer) (line : Text) (old new : Sunk) (a : Answer) : Type 0 where
+  pub answer : a ≡ came
+  pub told : AllTold line old.told new.told
+  pub faults : new.faults ≡ old.faults
+
+-- the output failed
+pub record IsFailedPut (line : Text) (old new : Sunk) (a : Answer) : Type 0 where
+  pub answer : a ≡ write_fault output
+  pub told : FrontTold line old.told new.told
+  pub rose : Rose old.faults new.faults
+
+-- there was no memory for the name of the output
+pub record IsNotPut (old new : Sunk) (a : Answer) : Type 0 where
+  pub answer : a ≡ no_memory
+  pub told : new.told ≡ old.told
+  pub faults : new.faults ≡ old.faults
+
+abbrev pub Puts : Answer → Text → Sunk → Sunk → Answer → Type 0
+Puts came line old new a = IsWholePut came line old new a ⊎ IsFailedPut line old new a
+
+-- ---- The call
+
+-- The job came to an answer with its line. The line was put and is the answer's, or the output failed behind a front of it, or there was no
+-- memory for the name of the output, and then nothing was put.
+pub record Ran (words : List Text) (old new : Seen) (sunk now : Sunk) (a : Answer) : Type 0 where
+  pub came : Answer
+  pub line : Text
+  pub comes : Comes words old new came line
+  pub puts : Puts came line sunk now a ⊎ (IsNotPut sunk now a × (came ≡ no_memory))

@@ -1,0 +1,59 @@
+-- When faults are answered, by the counts of the store and of the output, and that nothing else comes between.
+use Rattle.std.specs.Prelude.{◌≡◌, ◌⊎◌, ◌+◌, ℕ, List, Some, None, ⊤}
+use Rattle.base_io.specs.Counts.{Rose}
+use Rattle.base_io.specs.Files.{Files}
+use Rattle.commands.specs.Words.{Text, Paths, asked}
+use Rattle.commands.specs.Answers.{Answer, read_fault, write_fault, no_memory, too_large, not_built}
+use Rattle.commands.specs.Causes.{HasCause, most_bytes, output}
+use Rattle.commands.specs.declared.status.Unbuilt.TheVariants.{Words}
+
+-- the words name the file as one that is read
+abbrev pub IsToRead : List Text → Text → Type 0
+IsToRead words name = (paths : Paths) × (asked words ≡ Some paths) × ((name ≡ paths.program) ⊎ (name ≡ paths.board))
+
+-- the words name the file as the image
+abbrev pub IsToWrite : List Text → Text → Type 0
+IsToWrite words name = (paths : Paths) × (asked words ≡ Some paths) × (name ≡ paths.image)
+
+-- A read fault names a file that the words name to be read, the last that the store failed at, and comes only where the count rose.
+abbrev pub ReadFaultIs : List Text → ℕ → ℕ → Text → Answer → Type 0
+ReadFaultIs words before now bad (read_fault name) = Rose before now × (name ≡ bad) × IsToRead words name
+ReadFaultIs words before now bad a = ⊤
+
+-- A write fault names the output, and the output's count rose, or the image, and the store's count of writes rose.
+abbrev pub WriteFaultIs : List Text → ℕ → ℕ → ℕ → ℕ → Answer → Type 0
+WriteFaultIs words writes_before writes_now puts_before puts_now (write_fault name) =
+    ((name ≡ output) × Rose puts_before puts_now) ⊎ (IsToWrite words name × Rose writes_before writes_now)
+WriteFaultIs words writes_before writes_now puts_before puts_now a = ⊤
+
+-- A file that is too large is one that the words name to be read, and a byte more than may be read was seen of it.
+abbrev pub TooLargeIs : List Text → Answer → Type 0
+TooLargeIs words (too_large name seen) = IsToRead words name × (seen ≡ most_bytes + 1)
+TooLargeIs words a = ⊤
+
+-- words without a reading are answered as such, and nothing else is
+abbrev pub WordsAre : List Text → Answer → Type 0
+WordsAre words (not_built Words) = asked words ≡ None
+WordsAre words a = (asked words ≡ None) → (a ≡ no_memory) ⊎ (a ≡ write_fault output)
+
+-- Where the count of reads that failed rose, the answer is a read fault, want of memory, or that the output failed.
+abbrev pub IsReadFaultOrFree : Answer → Type 0
+IsReadFaultOrFree (read_fault name) = ⊤
+IsReadFaultOrFree no_memory = ⊤
+IsReadFaultOrFree a = a ≡ write_fault output
+
+-- Where the count of writes that failed rose, the answer is a write fault.
+abbrev pub IsWriteFault : Answer → Type 0
+IsWriteFault (write_fault name) = ⊤
+IsWriteFault a = ⊥
+
+-- an answer that words and files alone decide
+abbrev pub IsDecided : Answer → Type 0
+IsDecided (read_fault name) = ⊥
+IsDecided (write_fault name) = ⊥
+IsDecided no_memory = ⊥
+IsDecided a = ⊤
+
+-- what words and files decide is answered, unless there is no memory
+abbrev pub IsComplete : List Text → Files → Answer → Type 0
+IsComplete words files a = (b : Answer) → IsDecided b → HasCause words files b → (a ≡ no_memory) ⊎ (a ≡ b)

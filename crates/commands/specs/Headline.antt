@@ -1,0 +1,43 @@
+-- The whole promise of a build that was done.
+use Rattle.std.specs.Prelude.{◌≡◌, List, Option, Some, None, ⊤}
+use Rattle.base_io.specs.Files.{Files, Writes}
+use Rattle.board_table.specs.File.{IsBoardOf}
+use Rattle.board_table.specs.declared.board.Board.{Board}
+use Rattle.ti_txt.specs.Image.{Block, IsImage}
+use Rattle.ti_txt.specs.Spelling.{text_of}
+use Rattle.straight_programs.specs.Text.{IsProgram}
+use Rattle.straight_programs.specs.Steps.{does, nodes_of}
+use Rattle.msp430_machine.specs.State.{State}
+use Rattle.msp430_machine.specs.First.{IsFirst, HoldsBlocks}
+use Rattle.power_core.specs.Agreement.{Agrees}
+use Rattle.power_core.specs.Enduring.{Endures}
+use Rattle.straight_programs.specs.declared.program.Statement.{Statement}
+use Rattle.commands.specs.Words.{Text, Paths, asked}
+
+-- The words name four files. PROG holds the text of a program and BOARD that of a board. IMAGE now holds the one spelling
+-- of an image, and no other file changed. On that board the image agrees with what the program does, under every supply
+-- whose refills each reach the budget, and under any supply at all it never resumes half-done work.
+pub record IsKept (words : List Text) (old new : Files) : Type 0 where
+  pub paths : Paths
+  pub asks : asked words ≡ Some paths
+  pub text : Text
+  pub program_file : old paths.program ≡ Some text
+  pub statements : List Statement
+  pub program : IsProgram text statements
+  pub bytes : Text
+  pub board_file : old paths.board ≡ Some bytes
+  pub board : Board
+  pub is_board : IsBoardOf bytes board
+  pub image : List Block
+  pub is_image : IsImage image
+  -- some device can be loaded with it
+  pub held : (s : State) × IsFirst s × HoldsBlocks s image
+  pub written : Writes paths.image (text_of image) old new
+  pub agrees : Agrees (does statements) (nodes_of statements) image board
+  pub endures : Endures (does statements) (nodes_of statements) image board
+
+abbrev pub IsKeptTold : List Text → Option Files → Option Files → Type 0
+IsKeptTold words (Some old) (Some new) = IsKept words old new
+IsKeptTold words None None = ⊤
+IsKeptTold words (Some old) None = ⊥
+IsKeptTold words None (Some new) = ⊥

@@ -1,0 +1,13 @@
+-- what the contract of `schematic` rests on
+pub mod Words
+pub mod Answers
+pub mod Causes
+pub mod Faults
+pub mod Left
+pub mod Job
+pub mod Call
+pub mod Headline
+pub mod Laws
+-- what the functions of the crate promise each other
+pub mod Paths
+pub mod Parts

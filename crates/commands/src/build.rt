@@ -1,0 +1,118 @@
+ghost use Rattle.std.specs.Prelude.{◌≡◌, ◌*◌, ◌≤◌, length, map, sum_by, IfOk, MatchResult, string_bytes};
+ghost use Rattle.board_table.specs.File.{IsBoardOf};
+ghost use Rattle.emit_layout.specs.Operations.{objects_of};
+ghost use Rattle.emit_layout.specs.Straight.{straight_blocks};
+ghost use Rattle.straight_programs.specs.Text.{IsProgram, statement_operations};
+ghost use Rattle.ti_txt.specs.Image.{block_of};
+ghost use Rattle.ti_txt.specs.Spelling.{text_of};
+ghost use Rattle.commands.specs.Answers.{answer_of, built_line};
+ghost use Rattle.commands.specs.Causes.{IsRefused};
+ghost use Rattle.commands.specs.Parts.{IsBoardRefused, IsProgramRefused, IsReadyOf};
+ghost use Rattle.commands.specs.Job.{code_size};
+
+use crate::{BoardRefusal, Status, Unbuilt};
+use base_io::Memory;
+use board_table::{Board, BoardFault, read_board};
+use emit_layout::{data_bytes, straight_image, straight_need};
+use std::alloc::Global;
+use straight_programs::{Statement, read_program};
+use ti_txt::{Segment, write};
+
+/// The bytes of the image's text, and the line that tells what was built.
+#[derive(Drop)]
+pub struct Ready {
+    pub text: Vec<u8>,
+    pub line: String,
+}
+
+// The statements of the program of this text.
+fn statements_of(alloc: Global, text: &[u8]) -> Result<Vec<Statement>, Status>
+    ensures { MatchResult result (λ v. IsProgram text.now v.items) (λ s. IsProgramRefused text.now (answer_of s)) }
+{
+    match read_program(alloc, text) {
+        Ok(Some(statements)) => Ok(statements),
+        Ok(None) => Err(Status::NotBuilt {
+            what: Unbuilt::Program,
+        }),
+        Err(_) => Err(Status::Memory),
+    }
+}
+
+// The board of a file.
+fn board_of(alloc: Global, bytes: &[u8]) -> Result<Board, Status>
+    ensures { MatchResult result (λ b. IsBoardOf bytes.now b) (λ s. IsBoardRefused bytes.now (answer_of s)) }
+{
+    match read_board(alloc, bytes) {
+        Ok(board) => Ok(board),
+        Err(BoardFault::NotToml) => Err(Status::BoardRefused {
+            fault: BoardRefusal::NotToml,
+            key: String::new(alloc),
+        }),
+        Err(BoardFault::Missing { key }) => Err(Status::BoardRefused {
+            fault: BoardRefusal::Missing,
+            key,
+        }),
+        Err(BoardFault::OutOfRange { key }) => Err(Status::BoardRefused {
+            fault: BoardRefusal::OutOfRange,
+            key,
+        }),
+        Err(BoardFault::Extra { key }) => Err(Status::BoardRefused {
+            fault: BoardRefusal::Extra,
+            key,
+        }),
+        Err(BoardFault::Memory) => Err(Status::Memory),
+    }
+}
+
+/// What a program and a board come to.
+pub fn ready_of(alloc: Global, program: &[u8], board: &[u8]) -> Result<Ready, Status>
+    ensures { MatchResult result
+        (λ r. IsReadyOf program.now board.now r.text.items (string_bytes r.line))
+        (λ s. IsRefused program.now board.now (answer_of s)) }
+{
+    let statements = statements_of(alloc, program)?;
+    let board = board_of(alloc, board)?;
+    let need = straight_need(&board, &statements);
+    if board.budget < need {
+        return Err(Status::NeedsCheckpoint {
+            need,
+            budget: board.budget,
+        });
+    }
+    match spelled(alloc, &statements) {
+        Ok(ready) => Ok(ready),
+        Err(_) => Err(Status::Memory),
+    }
+}
+
+// The text of the image of a program of these statements.
+fn spelled(alloc: Global, statements: &[Statement]) -> Result<Ready, Memory>
+    requires few { sum_by statement_operations statements.now ≤ 255 }
+    ensures { IfOk result (λ r.
+        (r.text.items ≡ text_of (straight_blocks statements.now))
+        × (string_bytes r.line ≡ built_line (code_size (straight_blocks statements.now)) (2 * objects_of statements.now))) }
+{
+    let image = straight_image(alloc, statements)?;
+    let mut text = Vec::new(alloc);
+    write(&image, &mut text)?;
+    let code = code_size(&image.segments);
+    let data = data_bytes(statements);
+    match format!(in alloc; "built code {code} data {data} chains 1\n") {
+        Ok(line) => Ok(Ready { text, line }),
+        Err(_) => Err(Memory),
+    }
+}
+
+// The bytes from 0x8000 on.
+fn code_size(segments: &[Segment]) -> usize
+    ensures { result ≡ code_size (map block_of segments.now) }
+{
+    let mut rest = segments;
+    while let [segment, others @ ..] = rest {
+        if segment.start == 0x8000 {
+            return segment.bytes.len();
+        }
+        rest = others;
+    }
+    0
+}

@@ -1,0 +1,443 @@
+//! The worked rows of a build, over a store and an output in memory: what no clause says is which line and which image come.
+use super::schematic;
+use base_io::{MemSink, MemStore};
+use std::alloc::{AllocError, Global};
+use std::process::Abort;
+use std::test::Fail;
+
+/// What a call is given and what is wanted of it.
+#[derive(Clone, Copy)]
+struct Row<'a> {
+    words: &'a [&'a str],
+    /// The statements of `p.c`, and how often they stand there.
+    statements: (&'a str, usize),
+    /// The budget's line, that of `fetch`, and the lines behind the last, of `b.toml`.
+    board: [&'a str; 3],
+    /// Which get and which put of the store fail, and which put of the output, counted from 1.
+    failing: [u64; 3],
+    /// The bytes for which the output and the image's name have room.
+    rooms: [usize; 2],
+    code: u8,
+    status: &'a str,
+    put: &'a str,
+    /// The file of the image.
+    image: Option<&'a str>,
+}
+
+/// The first program on the ordinary board.
+const FIRST: Row = Row {
+    words: &["build", "p.c", "b.toml", "p.txt", "p.cert"],
+    statements: ("out(7);", 1),
+    board: ["budget = 2000\n", "fetch = 2\n", ""],
+    failing: [0, 0, 0],
+    rooms: [1000, 10000],
+    code: 0,
+    status: "Done",
+    put: "built code 54 data 0 chains 1\n",
+    image: Some(
+        "@1800\n01 00 24 80 00 80\n@8000\n\
+        92 93 00 18 04 20 11 42 04 18 10 42 02 18 A2 42\n\
+        06 0F 82 41 04 18 B2 40 24 80 02 18 92 43 00 18\n\
+        32 D0 10 00 82 43 00 18 3F 40 07 00 82 4F 02 0F\n\
+        0F 43 82 4F 04 0F\n@FFFE\n00 80\nq\n",
+    ),
+};
+
+const UNWORDED: Row = Row {
+    code: 30,
+    status: "NotBuilt { what: Words }",
+    put: "not built: words\n",
+    image: None,
+    ..FIRST
+};
+
+const UNFORMED: Row = Row {
+    code: 30,
+    status: "NotBuilt { what: Program }",
+    put: "not built: program\n",
+    image: None,
+    ..FIRST
+};
+
+const REFUSED: Row = Row {
+    code: 7,
+    image: None,
+    ..FIRST
+};
+
+const DEAR: Row = Row {
+    code: 31,
+    image: None,
+    ..FIRST
+};
+
+const UNREAD: Row = Row {
+    code: 3,
+    image: None,
+    ..FIRST
+};
+
+const LARGE: Row = Row {
+    code: 20,
+    image: None,
+    ..FIRST
+};
+
+const UNWRITTEN: Row = Row {
+    code: 4,
+    status: "WriteFault { name: \"p.txt\" }",
+    put: "cannot write p.txt\n",
+    image: None,
+    ..FIRST
+};
+
+const UNPUT: Row = Row {
+    code: 4,
+    status: "WriteFault { name: \"-\" }",
+    put: "",
+    ..FIRST
+};
+
+/// The first program alone, then what is built, needs too much, is no board, no words or no program, isn't read, written or put.
+static ROWS: [Row; 41] = [
+    FIRST,
+    Row {
+        statements: ("unsigned int a=in();out(a+1u);", 1),
+        board: ["budget = 139\n", "fetch = 2\n", ""],
+        put: "built code 82 data 6 chains 1\n",
+        image: Some(
+            "@1800\n01 00 24 80 00 80\n@8000\n\
+        92 93 00 18 04 20 11 42 04 18 10 42 02 18 A2 42\n\
+        06 0F 82 41 04 18 B2 40 24 80 02 18 92 43 00 18\n\
+        32 D0 10 00 82 43 00 18 1F 42 00 0F 82 4F 02 44\n\
+        1F 42 02 44 82 4F 00 44 1F 42 00 44 1E 43 0F 5E\n\
+        82 4F 04 44 1F 42 04 44 82 4F 02 0F 0F 43 82 4F\n\
+        04 0F\n\
+        @FFFE\n00 80\nq\n",
+        ),
+        ..FIRST
+    },
+    Row {
+        statements: ("unsigned int a=in();out(a+1u);", 1),
+        board: ["budget = 138\n", "fetch = 2\n", ""],
+        status: "NeedsCheckpoint { need: 139, budget: 138 }",
+        put: "needs checkpoint: 139 of 138\n",
+        ..DEAR
+    },
+    Row {
+        statements: ("out(0);out(1);out(2);out(4);out(8);out(32767);", 1),
+        put: "built code 84 data 0 chains 1\n",
+        image: Some(
+            "@1800\n01 00 24 80 00 80\n@8000\n\
+        92 93 00 18 04 20 11 42 04 18 10 42 02 18 A2 42\n\
+        06 0F 82 41 04 18 B2 40 24 80 02 18 92 43 00 18\n\
+        32 D0 10 00 82 43 00 18 0F 43 82 4F 02 0F 1F 43\n\
+        82 4F 02 0F 2F 43 82 4F 02 0F 2F 42 82 4F 02 0F\n\
+        3F 42 82 4F 02 0F 3F 40 FF 7F 82 4F 02 0F 0F 43\n\
+        82 4F 04 0F\n\
+        @FFFE\n00 80\nq\n",
+        ),
+        ..FIRST
+    },
+    Row {
+        statements: ("out(7);", 40),
+        put: "built code 366 data 0 chains 1\n",
+        image: Some(
+            "@1800\n01 00 24 80 00 80\n@8000\n\
+        92 93 00 18 04 20 11 42 04 18 10 42 02 18 A2 42\n\
+        06 0F 82 41 04 18 B2 40 24 80 02 18 92 43 00 18\n\
+        32 D0 10 00 82 43 00 18 3F 40 07 00 82 4F 02 0F\n\
+        3F 40 07 00 82 4F 02 0F 3F 40 07 00 82 4F 02 0F\n\
+        3F 40 07 00 82 4F 02 0F 3F 40 07 00 82 4F 02 0F\n\
+        3F 40 07 00 82 4F 02 0F 3F 40 07 00 82 4F 02 0F\n\
+        3F 40 07 00 82 4F 02 0F 3F 40 07 00 82 4F 02 0F\n\
+        3F 40 07 00 82 4F 02 0F 3F 40 07 00 82 4F 02 0F\n\
+        3F 40 07 00 82 4F 02 0F 3F 40 07 00 82 4F 02 0F\n\
+        3F 40 07 00 82 4F 02 0F 3F 40 07 00 82 4F 02 0F\n\
+        3F 40 07 00 82 4F 02 0F 3F 40 07 00 82 4F 02 0F\n\
+        3F 40 07 00 82 4F 02 0F 3F 40 07 00 82 4F 02 0F\n\
+        3F 40 07 00 82 4F 02 0F 3F 40 07 00 82 4F 02 0F\n\
+        3F 40 07 00 82 4F 02 0F 3F 40 07 00 82 4F 02 0F\n\
+        3F 40 07 00 82 4F 02 0F 3F 40 07 00 82 4F 02 0F\n\
+        3F 40 07 00 82 4F 02 0F 3F 40 07 00 82 4F 02 0F\n\
+        3F 40 07 00 82 4F 02 0F 3F 40 07 00 82 4F 02 0F\n\
+        3F 40 07 00 82 4F 02 0F 3F 40 07 00 82 4F 02 0F\n\
+        3F 40 07 00 82 4F 02 0F 3F 40 07 00 82 4F 02 0F\n\
+        3F 40 07 00 82 4F 02 0F 3F 40 07 00 82 4F 02 0F\n\
+        3F 40 07 00 82 4F 02 0F 3F 40 07 00 82 4F 02 0F\n\
+        3F 40 07 00 82 4F 02 0F 3F 40 07 00 82 4F 02 0F\n\
+        3F 40 07 00 82 4F 02 0F 0F 43 82 4F 04 0F\n\
+        @FFFE\n00 80\nq\n",
+        ),
+        ..FIRST
+    },
+    Row {
+        statements: ("out(7);", 40),
+        board: ["budget = 553\n", "fetch = 2\n", ""],
+        status: "NeedsCheckpoint { need: 554, budget: 553 }",
+        put: "needs checkpoint: 554 of 553\n",
+        ..DEAR
+    },
+    Row {
+        statements: ("out(7);", 200),
+        status: "NeedsCheckpoint { need: 2474, budget: 2000 }",
+        put: "needs checkpoint: 2474 of 2000\n",
+        ..DEAR
+    },
+    Row {
+        board: ["budget = 86\n", "fetch = 2\n", ""],
+        ..FIRST
+    },
+    Row {
+        board: ["budget = 85\n", "fetch = 2\n", ""],
+        status: "NeedsCheckpoint { need: 86, budget: 85 }",
+        put: "needs checkpoint: 86 of 85\n",
+        ..DEAR
+    },
+    Row {
+        status: "BoardRefused { fault: Extra, key: \"access.spare\" }",
+        put: "board refused: Extra access.spare\n",
+        board: ["budget = 2000\n", "fetch = 2\n", "spare = 1\n"],
+        ..REFUSED
+    },
+    Row {
+        status: "BoardRefused { fault: Missing, key: \"access.fetch\" }",
+        put: "board refused: Missing access.fetch\n",
+        board: ["budget = 2000\n", "", ""],
+        ..REFUSED
+    },
+    Row {
+        status: "BoardRefused { fault: OutOfRange, key: \"budget\" }",
+        put: "board refused: OutOfRange budget\n",
+        board: ["budget = 0\n", "fetch = 2\n", ""],
+        ..REFUSED
+    },
+    Row {
+        status: "BoardRefused { fault: NotToml, key: \"\" }",
+        put: "board refused: NotToml\n",
+        board: ["budget\n", "fetch = 2\n", ""],
+        ..REFUSED
+    },
+    Row {
+        status: "BoardRefused { fault: Missing, key: \"budget\" }",
+        put: "board refused: Missing budget\n",
+        words: &["build", "p.c", "empty", "p.txt", "p.cert"],
+        ..REFUSED
+    },
+    Row {
+        words: &[],
+        ..UNWORDED
+    },
+    Row {
+        words: &["build"],
+        ..UNWORDED
+    },
+    Row {
+        words: &["check", "p.c", "b.toml", "p.txt", "p.cert"],
+        ..UNWORDED
+    },
+    Row {
+        words: &["build", "p.c", "b.toml", "p.txt"],
+        ..UNWORDED
+    },
+    Row {
+        words: &["build", "p.c", "b.toml", "p.txt", "p.cert", "q"],
+        ..UNWORDED
+    },
+    Row {
+        words: &["build", "p.c", "b.toml", "p.txt", "p.txt"],
+        ..UNWORDED
+    },
+    Row {
+        words: &["build", "p.c", "p.c", "p.txt", "p.cert"],
+        ..UNWORDED
+    },
+    Row {
+        words: &["build", "p.c", "b.toml", "p.c", "p.cert"],
+        ..UNWORDED
+    },
+    Row {
+        words: &["build", "p.c", "b.toml", "p.txt", "-"],
+        ..UNWORDED
+    },
+    Row {
+        words: &["build", "-", "b.toml", "p.txt", "p.cert"],
+        ..UNWORDED
+    },
+    Row {
+        statements: ("out(07);", 1),
+        ..UNFORMED
+    },
+    Row {
+        words: &["build", "empty", "b.toml", "p.txt", "p.cert"],
+        ..UNFORMED
+    },
+    Row {
+        statements: (" ", 65511),
+        ..UNFORMED
+    },
+    Row {
+        statements: (" ", 65512),
+        status: "TooLarge { name: \"p.c\", seen: 65537 }",
+        put: "too large: p.c\n",
+        ..LARGE
+    },
+    Row {
+        words: &["build", "b.toml", "p.c", "p.txt", "p.cert"],
+        statements: (" ", 65512),
+        status: "TooLarge { name: \"p.c\", seen: 65537 }",
+        put: "too large: p.c\n",
+        ..LARGE
+    },
+    Row {
+        words: &["build", "q.c", "q.toml", "p.txt", "p.cert"],
+        status: "ReadFault { name: \"q.c\" }",
+        put: "cannot read q.c\n",
+        ..UNREAD
+    },
+    Row {
+        words: &["build", "empty", "q.toml", "p.txt", "p.cert"],
+        status: "ReadFault { name: \"q.toml\" }",
+        put: "cannot read q.toml\n",
+        ..UNREAD
+    },
+    Row {
+        failing: [1, 0, 0],
+        status: "ReadFault { name: \"p.c\" }",
+        put: "cannot read p.c\n",
+        ..UNREAD
+    },
+    Row {
+        failing: [2, 0, 0],
+        status: "ReadFault { name: \"b.toml\" }",
+        put: "cannot read b.toml\n",
+        ..UNREAD
+    },
+    Row {
+        failing: [0, 1, 0],
+        ..UNWRITTEN
+    },
+    Row {
+        rooms: [1000, 100],
+        ..UNWRITTEN
+    },
+    Row {
+        failing: [0, 0, 1],
+        ..UNPUT
+    },
+    // The line is one put.
+    Row {
+        failing: [0, 0, 2],
+        ..FIRST
+    },
+    Row {
+        rooms: [10, 10000],
+        put: "built code",
+        ..UNPUT
+    },
+    Row {
+        failing: [0, 1, 1],
+        image: None,
+        ..UNPUT
+    },
+    Row {
+        words: &[],
+        rooms: [5, 10000],
+        put: "not b",
+        image: None,
+        ..UNPUT
+    },
+    Row {
+        failing: [1, 0, 1],
+        image: None,
+        ..UNPUT
+    },
+];
+
+/// A program of these statements.
+fn program(alloc: Global, statements: (&str, usize)) -> Result<Vec<u8>, AllocError> {
+    let mut text = Vec::from_slice(alloc, b"int main(void){")?;
+    for _ in 0..statements.1 {
+        text.extend_from_slice(statements.0.as_bytes())?;
+    }
+    text.extend_from_slice(b"return 0;}")?;
+    Ok(text)
+}
+
+/// The ordinary board with other lines.
+fn board(alloc: Global, lines: [&str; 3]) -> Result<Vec<u8>, AllocError> {
+    let mut text = Vec::from_slice(alloc, lines[0].as_bytes())?;
+    text.extend_from_slice(
+        b"[core]\nmove = 1\nalu = 1\none = 1\npush = 2\ncall = 3\njump = 2\n[access]\n",
+    )?;
+    text.extend_from_slice(lines[1].as_bytes())?;
+    text.extend_from_slice(
+        b"sram_read = 1\nsram_write = 1\nfram_read = 2\nfram_write = 3\nport_read = 2\nport_write = 2\n",
+    )?;
+    text.extend_from_slice(lines[2].as_bytes())?;
+    Ok(text)
+}
+
+/// `p.c`, `b.toml` and the file `empty`.
+fn store(alloc: Global, row: &Row) -> Result<MemStore, Fail> {
+    let program = program(alloc, row.statements)?;
+    let board = board(alloc, row.board)?;
+    let files = vec![in alloc;
+        (String::from_str(alloc, "p.c")?, program),
+        (String::from_str(alloc, "b.toml")?, board),
+        (String::from_str(alloc, "empty")?, Vec::new(alloc)),
+    ]?;
+    let gets = vec![in alloc; row.failing[0]]?;
+    let puts = vec![in alloc; row.failing[1]]?;
+    let mut store = MemStore::new(alloc, files, gets, puts)?;
+    store.reserve("p.txt", row.rooms[1])?;
+    store.reserve("p.cert", 10000)?;
+    Ok(store)
+}
+
+/// The image as the row wants it, and no other file changed.
+fn compare_files(rt: &impl Abort, alloc: Global, row: &Row, store: &MemStore) -> Result<(), Fail> {
+    let program = program(alloc, row.statements)?;
+    let board = board(alloc, row.board)?;
+    assert_eq!(rt;
+        store.file("p.txt"),
+        row.image.map(|text| text.as_bytes()),
+        "image of {}",
+        row.put
+    );
+    assert_eq!(rt; store.file("p.cert"), None, "certificate of {}", row.put);
+    assert_eq!(rt;
+        store.file("p.c"),
+        Some(program.as_slice()),
+        "program of {}",
+        row.put
+    );
+    assert_eq!(rt;
+        store.file("b.toml"),
+        Some(board.as_slice()),
+        "board of {}",
+        row.put
+    );
+    Ok(())
+}
+
+/// Does the job of a row, and compares all that it comes to.
+fn try_row(rt: &impl Abort, alloc: Global, row: &Row) -> Result<(), Fail> {
+    let mut store = store(alloc, row)?;
+    let failing = vec![in alloc; row.failing[2]]?;
+    let mut sink = MemSink::new(alloc, row.rooms[0], failing)?;
+    let status = schematic(alloc, row.words, &mut store, &mut sink);
+    assert_eq!(rt; status.code(), row.code, "code of {}", row.put);
+    let shown = format!(in alloc; "{status:?}")?;
+    assert_eq!(rt; shown.as_str(), row.status);
+    assert_eq!(rt; sink.bytes(), row.put.as_bytes());
+    compare_files(rt, alloc, row, &store)
+}
+
+#[test]
+fn builds_or_tells_why(rt: HostRuntime) -> Result<(), Fail> {
+    for row in &ROWS {
+        try_row(&rt, rt.alloc(), row)?;
+    }
+    Ok(())
+}

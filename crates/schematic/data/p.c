@@ -1,0 +1,1 @@
+int main(void){out(7);return 0;}
