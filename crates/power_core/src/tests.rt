@@ -12,6 +12,10 @@ const SEVEN: &str =
 // It sleeps, jumps back and sleeps again.
 const NAP: &str = "@8000\n32 D0 10 00 FD 3F\n@FFFE\n00 80\nq\n";
 
+// The image of `int main(void){while(1)out(in());}`: one loop of 36 turns on a charge, its word in SRAM.
+const ECHO: &str =
+    "@1800\n01 00 24 80 00 80\n@8000\n92 93 00 18 04 20 11 42 04 18 10 42 02 18 A2 42\n06 0F 82 41 04 18 B2 40 24 80 02 18 92 43 00 18\n32 D0 10 00 82 43 00 18 3A 40 24 00 1F 43 0F 93\n02 20 30 40 52 80 1F 42 00 0F 82 4F 00 1C 1F 42\n00 1C 82 4F 02 0F 1A 83 02 24 30 40 2C 80 30 40\n12 80 82 41 04 18 B2 40 64 80 02 18 92 43 00 18\n32 D0 10 00 82 43 00 18 0F 43 82 4F 04 0F\n@FFFE\n00 80\nq\n";
+
 fn ordinary() -> Board {
     Board {
         budget: 2000,
@@ -316,5 +320,32 @@ fn is_cut_one_unit_short(rt: HostRuntime) -> Result<(), Fail> {
             assert_eq!(rt; core.spent(), spent, "{text}");
         }
     }
+    Ok(())
+}
+
+// Two words of input and zeros behind them, on three refills.
+#[test]
+fn echoes(rt: HostRuntime) -> Result<(), Fail> {
+    let mut core = device(rt.alloc(), ECHO)?;
+    let mut words = Vec::new(rt.alloc());
+    for _ in 0u16..1200 {
+        if core.charges() >= 4 || core.instructions() >= 1200 {
+            break;
+        }
+        match core.apply(Event::Go, &ordinary(), &[5, 6]) {
+            Seen::Done(Did::Out(word)) => words.push(word)?,
+            Seen::NotNow if core.charges() < 3 => {
+                core.apply(Event::Wake(lose(2000, 0)), &ordinary(), &[5, 6]);
+            }
+            _ => {}
+        }
+    }
+    let mut wanted = Vec::new(rt.alloc());
+    wanted.extend_from_slice(&[5, 6])?;
+    wanted.extend_from_slice(&[0; 106])?;
+    assert_eq!(rt; words.as_slice(), wanted.as_slice());
+    assert_eq!(rt; core.charges(), 3);
+    assert_eq!(rt; core.instructions(), 1110);
+    assert_eq!(rt; core.spent(), 5391);
     Ok(())
 }
