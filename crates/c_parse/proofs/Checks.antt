@@ -2,7 +2,7 @@
 use Rattle.std.proofs.Common.{◌≡◌, ℕ, zero, suc, List, [], ◌∷◌, ◌++◌, Option, Some, None, Bool, true, false, not, ◌||◌, ◌&&◌, ◌==◌, map, cond, refl, sym, ap, ◌∙◌}
 use Rattle.c_parse.specs.declared.class.Class.{Class}
 use Rattle.c_parse.specs.declared.class.Class.TheVariants.{Name, Number, Plus, Minus, Star, Divide, Shift, Relation, Equality, Ampersand, Caret, Bar, AndAnd, BarBar, Complement, Question, Colon, Semicolon, Comma, Open, Close, OpenIndex, CloseIndex, OpenBrace, CloseBrace, Equals, Compound, Increment, Member, Static, Const, Void, Char, Sign, Short, Int, Fixed, Break, Continue, Return, If, Else, While, Do, For, Switch, Case, Default, Unused}
-use Rattle.c_parse.specs.Grammar.{Within, in_body, in_switch, in_loop, Form, program, externals, external, unstatic, titled, signature, ending, params, param_list, more_params, param, param_name, declarators, more_declarators, declarator, initial, list_initial, more_values, next_value, block, items, item, declaration, statement, else_part, returned, for_first, tested, stepped, groups, group, labelled, label, action, target, subscript, assign, expr, choice, binary, operations, unary, primary, arguments, more_arguments, type_name, after_char, after_sign, after_short, after_int, after_sign_short, after_sign_int, after_short_int, Symbol, token, sub, alternatives, is_else, is_label}
+use Rattle.c_parse.specs.Grammar.{Within, in_body, in_switch, in_loop, Form, program, externals, external, unstatic, titled, signature, ending, params, param_list, more_params, param, param_name, declarators, more_declarators, declarator, initial, list_initial, more_values, next_value, block, items, item, declaration, statement, else_part, returned, for_first, tested, stepped, groups, group, labelled, label, action, target, subscript, subscripted, assign, expr, choice, chosen, binary, operations, unary, operand, cast_type, primary, grouped, passed, arguments, more_arguments, type_name, after_char, after_sign, after_short, after_int, after_sign_short, after_sign_int, after_short_int, Symbol, token, sub, alternatives, is_else, is_label}
 use Rattle.c_parse.specs.Machine.{Choice, refuse, take_on, defer, judge, choose, nth, Delay, opened, called, named, begun, indexed, Frame, frame, readings, Telling, reading, onward, tell}
 
 abbrev pub number_of : Class → ℕ
@@ -379,6 +379,60 @@ begins_type_name Int = true
 begins_type_name Fixed = true
 begins_type_name _ = false
 
+abbrev pub begins_subscripted : Class → Bool
+begins_subscripted Name = true
+begins_subscripted Number = true
+begins_subscripted Plus = true
+begins_subscripted Minus = true
+begins_subscripted Complement = true
+begins_subscripted Open = true
+begins_subscripted _ = false
+
+abbrev pub begins_chosen : Class → Bool
+begins_chosen Name = true
+begins_chosen Number = true
+begins_chosen Plus = true
+begins_chosen Minus = true
+begins_chosen Complement = true
+begins_chosen Open = true
+begins_chosen _ = false
+
+abbrev pub begins_operand : Class → Bool
+begins_operand Name = true
+begins_operand Number = true
+begins_operand Plus = true
+begins_operand Minus = true
+begins_operand Complement = true
+begins_operand Open = true
+begins_operand _ = false
+
+abbrev pub begins_grouped : Class → Bool
+begins_grouped Name = true
+begins_grouped Number = true
+begins_grouped Plus = true
+begins_grouped Minus = true
+begins_grouped Complement = true
+begins_grouped Open = true
+begins_grouped _ = false
+
+abbrev pub begins_cast_type : Class → Bool
+begins_cast_type Char = true
+begins_cast_type Sign = true
+begins_cast_type Short = true
+begins_cast_type Int = true
+begins_cast_type Fixed = true
+begins_cast_type _ = false
+
+abbrev pub begins_passed : Class → Bool
+begins_passed Name = true
+begins_passed Number = true
+begins_passed Plus = true
+begins_passed Minus = true
+begins_passed Complement = true
+begins_passed Open = true
+begins_passed Close = true
+begins_passed _ = false
+
 abbrev pub begins_after_char : Class → Bool
 begins_after_char Sign = true
 begins_after_char _ = false
@@ -494,13 +548,19 @@ begins label class = begins_label class
 begins action class = begins_action class
 begins target class = begins_target class
 begins subscript class = begins_subscript class
+begins subscripted class = begins_subscripted class
 begins assign class = begins_assign class
 begins expr class = begins_expr class
 begins choice class = begins_choice class
+begins chosen class = begins_chosen class
 begins binary class = begins_binary class
 begins operations class = begins_operations class
 begins unary class = begins_unary class
+begins operand class = begins_operand class
+begins cast_type class = begins_cast_type class
 begins primary class = begins_primary class
+begins grouped class = begins_grouped class
+begins passed class = begins_passed class
 begins arguments class = begins_arguments class
 begins more_arguments class = begins_more_arguments class
 begins type_name class = begins_type_name class
@@ -890,9 +950,11 @@ stops subscript look = stops_subscript look
 stops target look = stops_target look
 stops primary look = stops_primary look
 stops unary look = stops_unary look
+stops operand look = stops_unary look
 stops operations look = stops_operations look
 stops binary look = stops_binary look
 stops choice look = stops_choice look
+stops chosen look = stops_choice look
 stops expr look = stops_expr look
 stops action look = stops_action look
 stops more_arguments look = stops_more_arguments look
@@ -1190,13 +1252,19 @@ fitting label = refl
 fitting action = refl
 fitting target = refl
 fitting subscript = refl
+fitting subscripted = refl
 fitting assign = refl
 fitting expr = refl
 fitting choice = refl
+fitting chosen = refl
 fitting binary = refl
 fitting operations = refl
 fitting unary = refl
+fitting operand = refl
+fitting cast_type = refl
 fitting primary = refl
+fitting grouped = refl
+fitting passed = refl
 fitting arguments = refl
 fitting more_arguments = refl
 fitting type_name = refl
@@ -1269,13 +1337,19 @@ solid_fitting label = refl
 solid_fitting action = refl
 solid_fitting target = refl
 solid_fitting subscript = refl
+solid_fitting subscripted = refl
 solid_fitting assign = refl
 solid_fitting expr = refl
 solid_fitting choice = refl
+solid_fitting chosen = refl
 solid_fitting binary = refl
 solid_fitting operations = refl
 solid_fitting unary = refl
+solid_fitting operand = refl
+solid_fitting cast_type = refl
 solid_fitting primary = refl
+solid_fitting grouped = refl
+solid_fitting passed = refl
 solid_fitting arguments = refl
 solid_fitting more_arguments = refl
 solid_fitting type_name = refl
@@ -1348,13 +1422,19 @@ kinds_fitting label = refl
 kinds_fitting action = refl
 kinds_fitting target = refl
 kinds_fitting subscript = refl
+kinds_fitting subscripted = refl
 kinds_fitting assign = refl
 kinds_fitting expr = refl
 kinds_fitting choice = refl
+kinds_fitting chosen = refl
 kinds_fitting binary = refl
 kinds_fitting operations = refl
 kinds_fitting unary = refl
+kinds_fitting operand = refl
+kinds_fitting cast_type = refl
 kinds_fitting primary = refl
+kinds_fitting grouped = refl
+kinds_fitting passed = refl
 kinds_fitting arguments = refl
 kinds_fitting more_arguments = refl
 kinds_fitting type_name = refl

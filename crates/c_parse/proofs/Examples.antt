@@ -1,4 +1,4 @@
--- Texts of classes that the machine reads, and the places at which it refuses others.
+-- Texts of classes that the machine reads, the places at which it refuses others, and how deep their tokens stand.
 use Rattle.std.proofs.Common.{◌≡◌, ℕ, zero, suc, List, [], ◌∷◌, length, map, Option, Some, None, refl}
 use Rattle.c_parse.specs.declared.class.Class.{Class}
 use Rattle.c_parse.specs.declared.class.Class.TheVariants.{Name, Number, Plus, Minus, Star, Relation, Question, Colon, Semicolon, Comma, Open, Close, OpenIndex, CloseIndex, OpenBrace, CloseBrace, Equals, Compound, Increment, Static, Const, Void, Char, Sign, Short, Int, Break, Continue, Return, If, Else, While, Do, For}
@@ -6,8 +6,8 @@ use Rattle.c_parse.specs.declared.raw.Raw.{Raw}
 use Rattle.c_parse.specs.declared.raw.Raw.TheVariants.{Node}
 use Rattle.c_parse.specs.declared.raw.RawRule.TheVariants.{Program as OfProgram}
 use Rattle.c_parse.specs.declared.form.Wait.{Wait}
-use Rattle.c_parse.specs.Grammar.{program, token, sub, Word, ahead}
-use Rattle.c_parse.specs.Machine.{want, State, turn}
+use Rattle.c_parse.specs.Grammar.{program, token, sub, Nested, ahead}
+use Rattle.c_parse.specs.Machine.{want, State, turn, level}
 use Rattle.c_parse.proofs.Checks.{same_class}
 use Rattle.std.specs.Prelude.{cond}
 
@@ -17,25 +17,25 @@ pub data Stop : Type 0 where
   whole_text : Stop
   too_long : Stop
 
-abbrev machine_read : (List Wait → List (List Raw) → List Word → Stop) → Class → List Wait → List (List Raw) → List Word → Stop
+abbrev machine_read : (List Wait → List (List Raw) → List Nested → Stop) → Class → List Wait → List (List Raw) → List Nested → Stop
 machine_read go_on class c (top ∷ vs) (word ∷ ts) = cond (same_class class word.class) (go_on c ((word.leaf ∷ top) ∷ vs) ts) (stops_at (length (word ∷ ts)))
 machine_read go_on class c vs ts = stops_at (length ts)
 
-abbrev machine_next : (List Wait → List (List Raw) → List Word → Stop) → Option State → List Word → Stop
+abbrev machine_next : (List Wait → List (List Raw) → List Nested → Stop) → Option State → List Nested → Stop
 machine_next go_on (Some s) ts = go_on s.waits s.builds ts
 machine_next go_on None ts = stops_at (length ts)
 
-abbrev machine_step : (List Wait → List (List Raw) → List Word → Stop) → List Wait → List (List Raw) → List Word → Stop
+abbrev machine_step : (List Wait → List (List Raw) → List Nested → Stop) → List Wait → List (List Raw) → List Nested → Stop
 machine_step go_on [] vs [] = whole_text
 machine_step go_on (want (token class) ∷ c) vs ts = machine_read go_on class c vs ts
 machine_step go_on c vs ts = machine_next go_on (turn c vs (ahead ts None)) ts
 
-abbrev runs_for : ℕ → List Wait → List (List Raw) → List Word → Stop
+abbrev runs_for : ℕ → List Wait → List (List Raw) → List Nested → Stop
 runs_for zero c vs ts = too_long
 runs_for (suc n) c vs ts = machine_step (λ c2 vs2 ts2. runs_for n c2 vs2 ts2) c vs ts
 
-abbrev word_of : Class → Word
-word_of class = record { class = class; leaf = Node OfProgram [] }
+abbrev word_of : Class → Nested
+word_of class = record { class = class; leaf = Node OfProgram []; level = 0 }
 
 abbrev stop_of : List Class → Stop
 stop_of classes = runs_for 400 (want (sub program) ∷ []) ([] ∷ []) (map word_of classes)
@@ -184,3 +184,119 @@ nested_choice = refl
 ends_early : stop_of (Int ∷ Name ∷ Open ∷ Void ∷ Close ∷ OpenBrace ∷ []) ≡ stops_at 0
 unfolding Rattle.c_parse.specs.declared.raw.Raw.TheViews.out-Raw denote.Hole.Carrier.out
 ends_early = refl
+
+abbrev levels_read : (List Wait → List (List Raw) → List Nested → List ℕ) → Class → List Wait → List (List Raw) → List Nested → List ℕ
+levels_read go_on class c (top ∷ vs) (word ∷ ts) = cond (same_class class word.class) (level c ∷ go_on c ((word.leaf ∷ top) ∷ vs) ts) (level c ∷ [])
+levels_read go_on class c vs ts = level c ∷ []
+
+abbrev levels_next : (List Wait → List (List Raw) → List Nested → List ℕ) → Option State → List Wait → List Nested → List ℕ
+levels_next go_on (Some s) c ts = go_on s.waits s.builds ts
+levels_next go_on None c ts = level c ∷ []
+
+abbrev levels_step : (List Wait → List (List Raw) → List Nested → List ℕ) → List Wait → List (List Raw) → List Nested → List ℕ
+levels_step go_on [] vs [] = []
+levels_step go_on (want (token class) ∷ c) vs ts = levels_read go_on class c vs ts
+levels_step go_on c vs ts = levels_next go_on (turn c vs (ahead ts None)) c ts
+
+abbrev levels_for : ℕ → List Wait → List (List Raw) → List Nested → List ℕ
+levels_for zero c vs ts = []
+levels_for (suc n) c vs ts = levels_step (λ c2 vs2 ts2. levels_for n c2 vs2 ts2) c vs ts
+
+-- the levels of the tokens that are read, and behind them how deep a token that fits nothing stands
+abbrev levels_of : List Class → List ℕ
+levels_of classes = levels_for 1000 (want (sub program) ∷ []) ([] ∷ []) (map word_of classes)
+
+-- if (a) { b = 1; } else while (c) ;
+levels_of_statements : levels_of (Int ∷ Name ∷ Open ∷ Void ∷ Close ∷ OpenBrace ∷ If ∷ Open ∷ Name ∷ Close ∷ OpenBrace ∷ Name ∷ Equals ∷ Number ∷ Semicolon ∷ CloseBrace ∷ Else ∷ While ∷ Open ∷ Name ∷ Close ∷ Semicolon ∷ CloseBrace ∷ []) ≡ 0 ∷ 0 ∷ 0 ∷ 0 ∷ 0 ∷ 0 ∷ 1 ∷ 1 ∷ 1 ∷ 1 ∷ 2 ∷ 3 ∷ 3 ∷ 3 ∷ 3 ∷ 2 ∷ 1 ∷ 2 ∷ 2 ∷ 2 ∷ 2 ∷ 3 ∷ 0 ∷ []
+unfolding Rattle.c_parse.specs.declared.raw.Raw.TheViews.out-Raw denote.Hole.Carrier.out
+levels_of_statements = refl
+
+-- return -(a + b[1]);
+levels_of_operand : levels_of (Int ∷ Name ∷ Open ∷ Void ∷ Close ∷ OpenBrace ∷ Return ∷ Minus ∷ Open ∷ Name ∷ Plus ∷ Name ∷ OpenIndex ∷ Number ∷ CloseIndex ∷ Close ∷ Semicolon ∷ CloseBrace ∷ []) ≡ 0 ∷ 0 ∷ 0 ∷ 0 ∷ 0 ∷ 0 ∷ 1 ∷ 1 ∷ 2 ∷ 3 ∷ 3 ∷ 3 ∷ 3 ∷ 4 ∷ 4 ∷ 3 ∷ 1 ∷ 0 ∷ []
+unfolding Rattle.c_parse.specs.declared.raw.Raw.TheViews.out-Raw denote.Hole.Carrier.out
+levels_of_operand = refl
+
+-- a = (char)(b) ? f(1) : 2;
+levels_of_cast : levels_of (Int ∷ Name ∷ Open ∷ Void ∷ Close ∷ OpenBrace ∷ Name ∷ Equals ∷ Open ∷ Char ∷ Close ∷ Open ∷ Name ∷ Close ∷ Question ∷ Name ∷ Open ∷ Number ∷ Close ∷ Colon ∷ Number ∷ Semicolon ∷ CloseBrace ∷ []) ≡ 0 ∷ 0 ∷ 0 ∷ 0 ∷ 0 ∷ 0 ∷ 1 ∷ 1 ∷ 1 ∷ 2 ∷ 2 ∷ 2 ∷ 3 ∷ 3 ∷ 1 ∷ 2 ∷ 2 ∷ 3 ∷ 3 ∷ 2 ∷ 2 ∷ 1 ∷ 0 ∷ []
+unfolding Rattle.c_parse.specs.declared.raw.Raw.TheViews.out-Raw denote.Hole.Carrier.out
+levels_of_cast = refl
+
+-- a[b[1]]++;
+levels_of_index : levels_of (Int ∷ Name ∷ Open ∷ Void ∷ Close ∷ OpenBrace ∷ Name ∷ OpenIndex ∷ Name ∷ OpenIndex ∷ Number ∷ CloseIndex ∷ CloseIndex ∷ Increment ∷ Semicolon ∷ CloseBrace ∷ []) ≡ 0 ∷ 0 ∷ 0 ∷ 0 ∷ 0 ∷ 0 ∷ 1 ∷ 1 ∷ 2 ∷ 2 ∷ 3 ∷ 3 ∷ 2 ∷ 1 ∷ 1 ∷ 0 ∷ []
+unfolding Rattle.c_parse.specs.declared.raw.Raw.TheViews.out-Raw denote.Hole.Carrier.out
+levels_of_index = refl
+
+-- int a[2] = {-1};
+levels_of_declarator : levels_of (Int ∷ Name ∷ OpenIndex ∷ Number ∷ CloseIndex ∷ Equals ∷ OpenBrace ∷ Minus ∷ Number ∷ CloseBrace ∷ Semicolon ∷ []) ≡ 0 ∷ 0 ∷ 0 ∷ 0 ∷ 0 ∷ 0 ∷ 0 ∷ 0 ∷ 1 ∷ 0 ∷ 0 ∷ []
+unfolding Rattle.c_parse.specs.declared.raw.Raw.TheViews.out-Raw denote.Hole.Carrier.out
+levels_of_declarator = refl
+
+-- return a ? b : c ? d : e;
+levels_of_choices : levels_of (Int ∷ Name ∷ Open ∷ Void ∷ Close ∷ OpenBrace ∷ Return ∷ Name ∷ Question ∷ Name ∷ Colon ∷ Name ∷ Question ∷ Name ∷ Colon ∷ Name ∷ Semicolon ∷ CloseBrace ∷ []) ≡ 0 ∷ 0 ∷ 0 ∷ 0 ∷ 0 ∷ 0 ∷ 1 ∷ 1 ∷ 1 ∷ 2 ∷ 2 ∷ 2 ∷ 2 ∷ 3 ∷ 3 ∷ 3 ∷ 1 ∷ 0 ∷ []
+unfolding Rattle.c_parse.specs.declared.raw.Raw.TheViews.out-Raw denote.Hole.Carrier.out
+levels_of_choices = refl
+
+-- return - ) : what begins with an operand doesn't count
+operand_missing : levels_of (Int ∷ Name ∷ Open ∷ Void ∷ Close ∷ OpenBrace ∷ Return ∷ Minus ∷ Close ∷ []) ≡ 0 ∷ 0 ∷ 0 ∷ 0 ∷ 0 ∷ 0 ∷ 1 ∷ 1 ∷ 1 ∷ []
+unfolding Rattle.c_parse.specs.declared.raw.Raw.TheViews.out-Raw denote.Hole.Carrier.out
+operand_missing = refl
+
+-- return ( ) : what stands in a bracket does
+group_missing : levels_of (Int ∷ Name ∷ Open ∷ Void ∷ Close ∷ OpenBrace ∷ Return ∷ Open ∷ Close ∷ []) ≡ 0 ∷ 0 ∷ 0 ∷ 0 ∷ 0 ∷ 0 ∷ 1 ∷ 1 ∷ 2 ∷ []
+unfolding Rattle.c_parse.specs.declared.raw.Raw.TheViews.out-Raw denote.Hole.Carrier.out
+group_missing = refl
+
+-- return f( ;
+argument_missing : levels_of (Int ∷ Name ∷ Open ∷ Void ∷ Close ∷ OpenBrace ∷ Return ∷ Name ∷ Open ∷ Semicolon ∷ []) ≡ 0 ∷ 0 ∷ 0 ∷ 0 ∷ 0 ∷ 0 ∷ 1 ∷ 1 ∷ 1 ∷ 2 ∷ []
+unfolding Rattle.c_parse.specs.declared.raw.Raw.TheViews.out-Raw denote.Hole.Carrier.out
+argument_missing = refl
+
+-- return a[ )
+index_missing : levels_of (Int ∷ Name ∷ Open ∷ Void ∷ Close ∷ OpenBrace ∷ Return ∷ Name ∷ OpenIndex ∷ Close ∷ []) ≡ 0 ∷ 0 ∷ 0 ∷ 0 ∷ 0 ∷ 0 ∷ 1 ∷ 1 ∷ 1 ∷ 2 ∷ []
+unfolding Rattle.c_parse.specs.declared.raw.Raw.TheViews.out-Raw denote.Hole.Carrier.out
+index_missing = refl
+
+-- return a ? ;
+choice_missing : levels_of (Int ∷ Name ∷ Open ∷ Void ∷ Close ∷ OpenBrace ∷ Return ∷ Name ∷ Question ∷ Semicolon ∷ []) ≡ 0 ∷ 0 ∷ 0 ∷ 0 ∷ 0 ∷ 0 ∷ 1 ∷ 1 ∷ 1 ∷ 2 ∷ []
+unfolding Rattle.c_parse.specs.declared.raw.Raw.TheViews.out-Raw denote.Hole.Carrier.out
+choice_missing = refl
+
+-- return (char a
+cast_unfinished : levels_of (Int ∷ Name ∷ Open ∷ Void ∷ Close ∷ OpenBrace ∷ Return ∷ Open ∷ Char ∷ Name ∷ []) ≡ 0 ∷ 0 ∷ 0 ∷ 0 ∷ 0 ∷ 0 ∷ 1 ∷ 1 ∷ 2 ∷ 2 ∷ []
+unfolding Rattle.c_parse.specs.declared.raw.Raw.TheViews.out-Raw denote.Hole.Carrier.out
+cast_unfinished = refl
+
+-- if ( ) : the bracket of a statement doesn't count
+test_missing : levels_of (Int ∷ Name ∷ Open ∷ Void ∷ Close ∷ OpenBrace ∷ If ∷ Open ∷ Close ∷ []) ≡ 0 ∷ 0 ∷ 0 ∷ 0 ∷ 0 ∷ 0 ∷ 1 ∷ 1 ∷ 1 ∷ []
+unfolding Rattle.c_parse.specs.declared.raw.Raw.TheViews.out-Raw denote.Hole.Carrier.out
+test_missing = refl
+
+-- while (a) } : what begins with a statement doesn't count
+body_missing : levels_of (Int ∷ Name ∷ Open ∷ Void ∷ Close ∷ OpenBrace ∷ While ∷ Open ∷ Name ∷ Close ∷ CloseBrace ∷ []) ≡ 0 ∷ 0 ∷ 0 ∷ 0 ∷ 0 ∷ 0 ∷ 1 ∷ 1 ∷ 1 ∷ 1 ∷ 1 ∷ []
+unfolding Rattle.c_parse.specs.declared.raw.Raw.TheViews.out-Raw denote.Hole.Carrier.out
+body_missing = refl
+
+abbrev times : ℕ → Class → List Class → List Class
+times zero class after = after
+times (suc n) class after = class ∷ times n class after
+
+abbrev last_of : List ℕ → ℕ
+last_of [] = 0
+last_of (last ∷ []) = last
+last_of (first ∷ second ∷ rest) = last_of (second ∷ rest)
+
+abbrev in_function : List Class → List Class
+in_function classes = Int ∷ Name ∷ Open ∷ Void ∷ Close ∷ OpenBrace ∷ classes
+
+-- behind 64 operators a ) isn't nested too deep, and an operand is, and so is what stands in its index; behind 64 brackets a ) is
+sixty_four_operators : last_of (levels_of (in_function (Return ∷ times 64 Minus (Close ∷ [])))) ≡ 64
+unfolding Rattle.c_parse.specs.declared.raw.Raw.TheViews.out-Raw denote.Hole.Carrier.out
+sixty_four_operators = refl
+
+one_more_operand : last_of (levels_of (in_function (Return ∷ times 64 Minus (Name ∷ OpenIndex ∷ Close ∷ [])))) ≡ 66
+unfolding Rattle.c_parse.specs.declared.raw.Raw.TheViews.out-Raw denote.Hole.Carrier.out
+one_more_operand = refl
+
+sixty_four_brackets : last_of (levels_of (in_function (Return ∷ times 64 Open (Close ∷ [])))) ≡ 65
+unfolding Rattle.c_parse.specs.declared.raw.Raw.TheViews.out-Raw denote.Hole.Carrier.out
+sixty_four_brackets = refl

@@ -2,7 +2,7 @@
 use Rattle.std.proofs.Common.{◌≡◌, ℕ, suc, List, [], ◌∷◌, ◌++◌, Option, Some, None, Bool, true, false, not, ◌&&◌, refl, sym, ap, subst, ◌∙◌, ◌+◌, arith}
 use Rattle.c_parse.specs.declared.class.Class.{Class}
 use Rattle.c_parse.specs.declared.raw.Raw.{Raw}
-use Rattle.c_parse.specs.Grammar.{Within, Form, else_part, labelled, Symbol, token, sub, alternatives, OneOf, here, there, is_else, is_label, allows_else, allows_labels, allows, Word, ahead, Derives, leaf, node, DeriveAll, none, more}
+use Rattle.c_parse.specs.Grammar.{Within, Form, else_part, labelled, Symbol, token, sub, alternatives, OneOf, here, there, is_else, is_label, allows_else, allows_labels, allows, weight, Nested, ahead, Derives, leaf, node, DeriveAll, none, more}
 use Rattle.c_parse.specs.Machine.{choose, nth}
 use Rattle.c_parse.proofs.Checks.{every_look, same_class, begins, empties, stops, starts, vanish, comes, may_follow, implies, parted, may_vanish, plain, agrees, tells, settled, ends_empty, fits_from, fitting, each_class, each_look, both_left, both_right, same_self, implied, or_first, or_second, both}
 
@@ -65,48 +65,48 @@ abbrev pub symbol_empties : Symbol → Bool
 symbol_empties (token _) = false
 symbol_empties (sub form) = empties form
 
-abbrev pub Begun : Symbol → List Word → Type 0
+abbrev pub Begun : Symbol → List Nested → Type 0
 Begun symbol [] = symbol_empties symbol ≡ true
 Begun symbol (word ∷ _) = symbol_begins symbol word.class ≡ true
 
-abbrev pub Leads : List Symbol → List Word → Type 0
+abbrev pub Leads : List Symbol → List Nested → Type 0
 Leads ss [] = vanish ss ≡ true
 Leads ss (word ∷ _) = starts ss word.class ≡ true
 
-pub lead_more : (symbol : Symbol) (ss : List Symbol) (front rest : List Word) → Begun symbol front → Leads ss rest → Leads (symbol ∷ ss) (front ++ rest)
+pub lead_more : (symbol : Symbol) (ss : List Symbol) (front rest : List Nested) → Begun symbol front → Leads ss rest → Leads (symbol ∷ ss) (front ++ rest)
 lead_more (token c) ss [] rest b l = cc
 lead_more (sub form) ss [] [] b l = both (empties form) (vanish ss) b l
 lead_more (sub form) ss [] (word ∷ rest) b l = or_second (begins form word.class) (empties form && starts ss word.class) (both (empties form) (starts ss word.class) b l)
 lead_more (token c) ss (word ∷ front) rest b l = b
 lead_more (sub form) ss (word ∷ front) rest b l = or_first (begins form word.class) (empties form && starts ss word.class) b
 
-pub told_at : (form : Form) (ss : List Symbol) (n : ℕ) (word : Word) → FitsAt form ss n → starts ss word.class ≡ true → (begins form word.class && agrees (plain ss) form n (choose form (Some word.class))) ≡ true
+pub told_at : (form : Form) (ss : List Symbol) (n : ℕ) (word : Nested) → FitsAt form ss n → starts ss word.class ≡ true → (begins form word.class && agrees (plain ss) form n (choose form (Some word.class))) ≡ true
 told_at form ss n word f l =
     implied (starts ss word.class) (begins form word.class && agrees (plain ss) form n (choose form (Some word.class)))
     (each_class (λ class. implies (starts ss class) (begins form class && agrees (plain ss) form n (choose form (Some class)))) f.tells_it word.class) l
 
-begun_by : (form : Form) (ss : List Symbol) (words : List Word) → Listed form ss → Leads ss words → Begun (sub form) words
+begun_by : (form : Form) (ss : List Symbol) (words : List Nested) → Listed form ss → Leads ss words → Begun (sub form) words
 begun_by form ss [] f l = both_left (empties form) _ (implied (vanish ss) _ f.fit.empty l)
 begun_by form ss (word ∷ ts) f l = both_left (begins form word.class) (agrees (plain ss) form f.n (choose form (Some word.class))) (told_at form ss f.n word f.fit l)
 
 mutual
-  pub begun_so : (symbol : Symbol) (raws : List Raw) (words : List Word) (next : Option Class) → Derives symbol raws words next → Begun symbol words
-  begun_so _ _ _ _ (leaf class word next is) = ap (same_class class) is ∙ same_self class
-  begun_so _ _ _ _ (node form ss parts raws words next one ok made all) = begun_by form ss words (listed form ss one) (leads_so ss parts words next all)
+  pub begun_so : (depth : ℕ) (symbol : Symbol) (raws : List Raw) (words : List Nested) (next : Option Class) → Derives depth symbol raws words next → Begun symbol words
+  begun_so _ _ _ _ _ (leaf depth class word next is deep) = ap (same_class class) is ∙ same_self class
+  begun_so _ _ _ _ _ (node depth form ss parts raws words next one ok made all) = begun_by form ss words (listed form ss one) (leads_so (depth + weight form) ss parts words next all)
 
-  pub leads_so : (ss : List Symbol) (parts : List Raw) (words : List Word) (next : Option Class) → DeriveAll ss parts words next → Leads ss words
-  leads_so _ _ _ _ (none next) = refl
-  leads_so _ _ _ _ (more symbol ss raws parts all front rest words next first others e1 e2) =
-      let P : List Word → Type 0 = λ t. Leads (symbol ∷ ss) t in
-      subst P (sym e2) (lead_more symbol ss front rest (begun_so symbol raws front (ahead rest next) first) (leads_so ss parts rest next others))
+  pub leads_so : (depth : ℕ) (ss : List Symbol) (parts : List Raw) (words : List Nested) (next : Option Class) → DeriveAll depth ss parts words next → Leads ss words
+  leads_so _ _ _ _ _ (none depth next) = refl
+  leads_so _ _ _ _ _ (more depth symbol ss raws parts all front rest words next first others e1 e2) =
+      let P : List Nested → Type 0 = λ t. Leads (symbol ∷ ss) t in
+      subst P (sym e2) (lead_more symbol ss front rest (begun_so depth symbol raws front (ahead rest next) first) (leads_so depth ss parts rest next others))
 
-pub come_of : (ss : List Symbol) (form : Form) (words : List Word) (next : Option Class) → Leads ss words → stops form next ≡ true → comes ss form (ahead words next) ≡ true
+pub come_of : (ss : List Symbol) (form : Form) (words : List Nested) (next : Option Class) → Leads ss words → stops form next ≡ true → comes ss form (ahead words next) ≡ true
 come_of ss form [] None l s = both (vanish ss) (stops form None) l s
 come_of ss form [] (Some k) l s = or_second (starts ss k) (vanish ss && stops form (Some k)) (both (vanish ss) (stops form (Some k)) l s)
 come_of ss form (word ∷ ts) next l s = or_first (starts ss word.class) (vanish ss && stops form (Some word.class)) l
 
 -- What follows a part may follow it.
-pub part_follows : (symbol : Symbol) (ss : List Symbol) (form : Form) (rest : List Word) (next : Option Class) → parted (symbol ∷ ss) form ≡ true → Leads ss rest → stops form next ≡ true
+pub part_follows : (symbol : Symbol) (ss : List Symbol) (form : Form) (rest : List Nested) (next : Option Class) → parted (symbol ∷ ss) form ≡ true → Leads ss rest → stops form next ≡ true
     → may_follow symbol (ahead rest next) ≡ true
 part_follows symbol ss form rest next p l s =
     implied (comes ss form (ahead rest next)) (may_follow symbol (ahead rest next))

@@ -1,48 +1,63 @@
 -- Each state that the machine reaches can be completed.
-use Rattle.std.proofs.Common.{◌≡◌, ◌<◌, ℕ, zero, suc, List, [], ◌∷◌, ◌++◌, length, Option, Some, None, Bool, true, false, not, ◌&&◌, refl, sym, ap, subst, ◌∙◌, arith}
+use Rattle.std.proofs.Common.{◌≡◌, ◌<◌, ℕ, zero, suc, List, [], ◌∷◌, ◌++◌, length, Option, Some, None, Bool, true, false, not, ◌&&◌, refl, sym, ap, subst, ◌∙◌, ◌+◌, arith}
 use Rattle.c_parse.specs.declared.class.Class.{Class}
-use Rattle.c_parse.specs.declared.class.Class.TheVariants.{Name, Number, Colon, Semicolon, Close, OpenBrace, CloseBrace, Equals, Fixed, Else, Default}
+use Rattle.c_parse.specs.declared.class.Class.TheVariants.{Name, Number, Colon, Semicolon, Close, CloseIndex, OpenBrace, CloseBrace, Equals, Fixed, Else, Default}
 use Rattle.c_parse.specs.declared.raw.Raw.{Raw}
-use Rattle.c_parse.specs.declared.raw.Raw.TheVariants.{Node}
-use Rattle.c_parse.specs.declared.raw.RawRule.TheVariants.{Program as OfProgram}
+use Rattle.base_io.specs.declared.place.Place.{Place}
+use Rattle.std.specs.Prelude.{All}
+use Rattle.std.proofs.lemmas.List.Elements.{All-nil, All-cons, All-append}
 use Rattle.c_parse.specs.declared.form.Wait.{Wait}
-use Rattle.c_parse.specs.Grammar.{make, Within, Form, program, externals, external, unstatic, titled, signature, ending, params, param_list, more_params, param, param_name, declarators, more_declarators, declarator, initial, list_initial, more_values, next_value, block, items, item, declaration, statement, else_part, returned, for_first, tested, stepped, groups, group, labelled, label, action, target, subscript, assign, expr, choice, binary, operations, unary, primary, arguments, more_arguments, type_name, after_char, after_sign, after_short, after_int, after_sign_short, after_sign_int, after_short_int, Symbol, token, sub, alternatives, OneOf, here, there, allows, Word, ahead, Derives, leaf, node, DeriveAll, none, more}
-use Rattle.c_parse.specs.Machine.{want, close, undecided, judged, Delay, opened, called, named, begun, indexed, Late, of_params, of_group, Choice, refuse, take_on, defer, judge, choose, nth, wants, Frame, frame, readings, first_of, Telling, reading, onward, tell, nth_reading, opens, blanks, without_first, late_form, late_symbols, verdict, late_rest, State, at, is_spliced, unfolded, turn_taken, turn_chosen, turn_read, turn_told, turn, Move, turns, shift, Moves, stay, go}
+use Rattle.c_parse.specs.Grammar.{make, Within, Form, program, externals, external, unstatic, titled, signature, ending, params, param_list, more_params, param, param_name, declarators, more_declarators, declarator, initial, list_initial, more_values, next_value, block, items, item, declaration, statement, else_part, returned, for_first, tested, stepped, groups, group, labelled, label, action, target, subscript, subscripted, assign, expr, choice, chosen, binary, operations, unary, operand, cast_type, primary, grouped, passed, arguments, more_arguments, type_name, after_char, after_sign, after_short, after_int, after_sign_short, after_sign_int, after_short_int, Symbol, token, sub, alternatives, OneOf, here, there, allows, weight, Nested, nested_at, IsReal, ahead, Derives, leaf, node, DeriveAll, none, more}
+use Rattle.c_parse.specs.Machine.{want, close, undecided, judged, Delay, opened, called, named, begun, indexed, Late, of_params, of_group, Choice, refuse, take_on, defer, judge, choose, nth, wants, Frame, frame, readings, first_of, Telling, reading, onward, tell, nth_reading, opens, blanks, without_first, late_form, late_symbols, verdict, late_rest, State, at, is_spliced, unfolded, turn_taken, turn_chosen, turn_read, turn_told, turn, level, Move, turns, shift, Moves, stay, go}
 use Rattle.c_parse.proofs.Checks.{is_judged, plain, all_plain, kind_fits, kind_fitting, both, both_left, both_right, not_true}
+use Rattle.c_parse.proofs.Spellings.{sample, sample_genuine}
 use Rattle.c_parse.proofs.Sound.{Completes, ended, wanted, closed, read_as, judged_so, Reads, this}
 
--- Some text of the symbol, whatever comes behind it.
+-- Some text of the symbol, however deep it stands and whatever comes behind it.
 pub record Witness (symbol : Symbol) : Type 0 where
   pub raws : List Raw
-  pub front : List Word
-  pub derives : (next : Option Class) → Derives symbol raws front next
+  pub front : ℕ → List Nested
+  pub real : (depth : ℕ) → All IsReal (front depth)
+  pub derives : (depth : ℕ) (next : Option Class) → Derives depth symbol raws (front depth) next
 
 record WitnessAll (symbols : List Symbol) : Type 0 where
   raws : List Raw
-  front : List Word
-  derive : (next : Option Class) → DeriveAll symbols raws front next
+  front : ℕ → List Nested
+  real : (depth : ℕ) → All IsReal (front depth)
+  derive : (depth : ℕ) (next : Option Class) → DeriveAll depth symbols raws (front depth) next
 
-some_leaf : Raw
-some_leaf = Node OfProgram []
+some_place : Place
+some_place = record { line = 1; column = 1 }
+
+abbrev some_token : Class → ℕ → Nested
+some_token class depth = nested_at depth (sample class some_place)
 
 w_token : (class : Class) → Witness (token class)
-w_token class = record { raws = some_leaf ∷ []; front = record { class = class; leaf = some_leaf } ∷ []; derives = λ next. leaf class (record { class = class; leaf = some_leaf }) next refl }
+w_token class = record {
+  raws = (sample class some_place).leaf ∷ [];
+  front = λ depth. some_token class depth ∷ [];
+  real = λ depth. All-cons IsReal (some_token class depth) [] (sample_genuine class some_place) (All-nil IsReal);
+  derives = λ depth next. leaf depth class (some_token class depth) next refl refl;
+}
 
 w_none : WitnessAll []
-w_none = record { raws = []; front = []; derive = λ next. none next }
+w_none = record { raws = []; front = λ depth. []; real = λ depth. All-nil IsReal; derive = λ depth next. none depth next }
 
 w_more : (symbol : Symbol) (symbols : List Symbol) → Witness symbol → WitnessAll symbols → WitnessAll (symbol ∷ symbols)
 w_more symbol symbols w ws = record {
   raws = w.raws ++ ws.raws;
-  front = w.front ++ ws.front;
-  derive = λ next. more symbol symbols w.raws ws.raws (w.raws ++ ws.raws) w.front ws.front (w.front ++ ws.front) next (w.derives (ahead ws.front next)) (ws.derive next) refl refl;
+  front = λ depth. w.front depth ++ ws.front depth;
+  real = λ depth. All-append IsReal (w.front depth) (ws.front depth) (w.real depth) (ws.real depth);
+  derive = λ depth next.
+      more depth symbol symbols w.raws ws.raws (w.raws ++ ws.raws) (w.front depth) (ws.front depth) (w.front depth ++ ws.front depth) next (w.derives depth (ahead (ws.front depth) next)) (ws.derive depth next) refl refl;
 }
 
 w_node : (form : Form) (ss : List Symbol) → OneOf ss (alternatives form) → ((parts : List Raw) (next : Option Class) → allows form ss parts next ≡ true) → WitnessAll ss → Witness (sub form)
 w_node form ss alternative ok ws = record {
   raws = make form ws.raws;
-  front = ws.front;
-  derives = λ next. node form ss ws.raws (make form ws.raws) ws.front next alternative (ok ws.raws next) refl (ws.derive next);
+  front = λ depth. ws.front (depth + weight form);
+  real = λ depth. ws.real (depth + weight form);
+  derives = λ depth next. node depth form ss ws.raws (make form ws.raws) (ws.front (depth + weight form)) next alternative (ok ws.raws next) refl (ws.derive (depth + weight form) next);
 }
 
 w_primary : Witness (sub primary)
@@ -50,6 +65,9 @@ w_primary = w_node primary (token Number ∷ []) (here _) (λ parts next. refl) 
 
 w_unary : Witness (sub unary)
 w_unary = w_node unary (sub primary ∷ []) (there _ _ (there _ _ (there _ _ (there _ _ (here _))))) (λ parts next. refl) (w_more (sub primary) ([]) w_primary w_none)
+
+w_operand : Witness (sub operand)
+w_operand = w_node operand (sub unary ∷ []) (here _) (λ parts next. refl) (w_more (sub unary) ([]) w_unary w_none)
 
 w_operations : Witness (sub operations)
 w_operations = w_node operations ([]) (here _) (λ parts next. refl) w_none
@@ -62,6 +80,15 @@ w_choice = w_node choice ([]) (here _) (λ parts next. refl) w_none
 
 w_expr : Witness (sub expr)
 w_expr = w_node expr (sub binary ∷ sub choice ∷ []) (here _) (λ parts next. refl) (w_more (sub binary) (sub choice ∷ []) w_binary (w_more (sub choice) ([]) w_choice w_none))
+
+w_chosen : Witness (sub chosen)
+w_chosen = w_node chosen (sub expr ∷ token Colon ∷ sub expr ∷ []) (here _) (λ parts next. refl) (w_more (sub expr) (token Colon ∷ sub expr ∷ []) w_expr (w_more (token Colon) (sub expr ∷ []) (w_token Colon) (w_more (sub expr) ([]) w_expr w_none)))
+
+w_subscripted : Witness (sub subscripted)
+w_subscripted = w_node subscripted (sub expr ∷ token CloseIndex ∷ []) (here _) (λ parts next. refl) (w_more (sub expr) (token CloseIndex ∷ []) w_expr (w_more (token CloseIndex) ([]) (w_token CloseIndex) w_none))
+
+w_grouped : Witness (sub grouped)
+w_grouped = w_node grouped (sub expr ∷ token Close ∷ []) (here _) (λ parts next. refl) (w_more (sub expr) (token Close ∷ []) w_expr (w_more (token Close) ([]) (w_token Close) w_none))
 
 w_subscript : Witness (sub subscript)
 w_subscript = w_node subscript ([]) (here _) (λ parts next. refl) w_none
@@ -77,6 +104,9 @@ w_action = w_node action (sub expr ∷ []) (there _ _ (there _ _ (there _ _ (her
 
 w_arguments : Witness (sub arguments)
 w_arguments = w_node arguments ([]) (here _) (λ parts next. refl) w_none
+
+w_passed : Witness (sub passed)
+w_passed = w_node passed (sub arguments ∷ token Close ∷ []) (here _) (λ parts next. refl) (w_more (sub arguments) (token Close ∷ []) w_arguments (w_more (token Close) ([]) (w_token Close) w_none))
 
 w_more_arguments : Witness (sub more_arguments)
 w_more_arguments = w_node more_arguments ([]) (here _) (λ parts next. refl) w_none
@@ -104,6 +134,9 @@ w_after_short_int = w_node after_short_int ([]) (here _) (λ parts next. refl) w
 
 w_type_name : Witness (sub type_name)
 w_type_name = w_node type_name (token Fixed ∷ []) (here _) (λ parts next. refl) (w_more (token Fixed) ([]) (w_token Fixed) w_none)
+
+w_cast_type : Witness (sub cast_type)
+w_cast_type = w_node cast_type (sub type_name ∷ token Close ∷ []) (here _) (λ parts next. refl) (w_more (sub type_name) (token Close ∷ []) w_type_name (w_more (token Close) ([]) (w_token Close) w_none))
 
 w_initial : Witness (sub initial)
 w_initial = w_node initial ([]) (here _) (λ parts next. refl) w_none
@@ -202,9 +235,10 @@ w_signature_rest answer = w_more (token Close) (sub (ending answer) ∷ []) (w_t
 w_params : Witness (sub (params true))
 w_params = record {
   raws = make (params true) [];
-  front = [];
-  derives = λ next. node (params true) (sub param_list ∷ []) [] (make (params true) []) [] next (here []) refl refl
-      (more (sub param_list) [] [] [] [] [] [] [] next (node param_list [] [] [] [] next (here _) refl refl (none next)) (none next) refl refl);
+  front = λ depth. [];
+  real = λ depth. All-nil IsReal;
+  derives = λ depth next. node depth (params true) (sub param_list ∷ []) [] (make (params true) []) [] next (here []) refl refl
+      (more (depth + 0) (sub param_list) [] [] [] [] [] [] [] next (node (depth + 0) param_list [] [] [] [] next (here _) refl refl (none (depth + 0 + 0) next)) (none (depth + 0) next) refl refl);
 }
 
 w_signature : Witness (sub signature)
@@ -217,15 +251,20 @@ witness (params _) e = cc
 witness (group _ _) e = cc
 witness primary e = w_primary
 witness unary e = w_unary
+witness operand e = w_operand
 witness operations e = w_operations
 witness binary e = w_binary
 witness choice e = w_choice
 witness expr e = w_expr
 witness subscript e = w_subscript
+witness chosen e = w_chosen
+witness subscripted e = w_subscripted
+witness grouped e = w_grouped
 witness target e = w_target
 witness assign e = w_assign
 witness action e = w_action
 witness arguments e = w_arguments
+witness passed e = w_passed
 witness more_arguments e = w_more_arguments
 witness after_char e = w_after_char
 witness after_sign e = w_after_sign
@@ -235,6 +274,7 @@ witness after_sign_short e = w_after_sign_short
 witness after_sign_int e = w_after_sign_int
 witness after_short_int e = w_after_short_int
 witness type_name e = w_type_name
+witness cast_type e = w_cast_type
 witness initial e = w_initial
 witness list_initial e = w_list_initial
 witness more_values e = w_more_values
@@ -399,15 +439,15 @@ good_turn (judged late ∷ c) (parts ∷ top ∷ vs) look c2 vs2 e g =
     good_lands _ _ c2 vs2 e (record { depth = deep_wants (late_rest late (verdict late parts)) c ∙ d2; wanted_free = free_wants (late_rest late (verdict late parts)) c (late_rest_free late (verdict late parts)) g.wanted_free })
 good_turn _ _ look c2 vs2 e g = cc
 
-good_move : (c : List Wait) (vs : List (List Raw)) (ts : List Word) (c2 : List Wait) (vs2 : List (List Raw)) (ts2 : List Word) → Move c vs ts c2 vs2 ts2 → Good c vs → Good c2 vs2
+good_move : (c : List Wait) (vs : List (List Raw)) (ts : List Nested) (c2 : List Wait) (vs2 : List (List Raw)) (ts2 : List Nested) → Move c vs ts c2 vs2 ts2 → Good c vs → Good c2 vs2
 good_move _ _ _ _ _ _ (turns c vs c2 vs2 ts e) g = good_turn c vs (ahead ts None) c2 vs2 e g
-good_move _ _ _ _ _ _ (shift class word c top vs ts is) g = record { depth = g.depth; wanted_free = g.wanted_free }
+good_move _ _ _ _ _ _ (shift class word c top vs ts is deep) g = record { depth = g.depth; wanted_free = g.wanted_free }
 
-pub good_moves : (c : List Wait) (vs : List (List Raw)) (ts : List Word) (c2 : List Wait) (vs2 : List (List Raw)) (ts2 : List Word) → Moves c vs ts c2 vs2 ts2 → Good c vs → Good c2 vs2
+pub good_moves : (c : List Wait) (vs : List (List Raw)) (ts : List Nested) (c2 : List Wait) (vs2 : List (List Raw)) (ts2 : List Nested) → Moves c vs ts c2 vs2 ts2 → Good c vs → Good c2 vs2
 good_moves _ _ _ _ _ _ (stay c vs ts) g = g
 good_moves _ _ _ _ _ _ (go c vs ts c2 vs2 ts2 c3 vs3 ts3 move moves) g = good_moves c2 vs2 ts2 c3 vs3 ts3 moves (good_move c vs ts c2 vs2 ts2 move g)
 
-deep_some : (c : List Wait) → 0 < deep c
+pub deep_some : (c : List Wait) → 0 < deep c
 deep_some [] = omega arith
 deep_some (want _ ∷ c) = deep_some c
 deep_some (close _ ∷ c) = omega arith
@@ -415,19 +455,21 @@ deep_some (undecided _ ∷ c) = omega arith
 deep_some (judged _ ∷ c) = omega arith
 
 pub record Completion (c : List Wait) (vs : List (List Raw)) : Type 0 where
-  pub rest : List Word
+  pub rest : List Nested
+  pub real : All IsReal rest
   pub out : List Raw
   pub done : Completes c vs rest out
 
 add_wanted : (symbol : Symbol) (c : List Wait) (top : List Raw) (vs : List (List Raw)) (w : Witness symbol) → Completion c ((top ++ w.raws) ∷ vs) → Completion (want symbol ∷ c) (top ∷ vs)
 add_wanted symbol c top vs w more_of = record {
-  rest = w.front ++ more_of.rest;
+  rest = w.front (level c) ++ more_of.rest;
+  real = All-append IsReal (w.front (level c)) more_of.rest (w.real (level c)) more_of.real;
   out = more_of.out;
-  done = wanted symbol c top vs w.raws w.front more_of.rest (w.front ++ more_of.rest) more_of.out (w.derives (ahead more_of.rest None)) more_of.done refl;
+  done = wanted symbol c top vs w.raws (w.front (level c)) more_of.rest (w.front (level c) ++ more_of.rest) more_of.out (w.derives (level c) (ahead more_of.rest None)) more_of.done refl;
 }
 
 add_closed : (form : Form) (c : List Wait) (parts top : List Raw) (vs : List (List Raw)) → Completion c ((top ++ make form parts) ∷ vs) → Completion (close form ∷ c) (parts ∷ top ∷ vs)
-add_closed form c parts top vs more_of = record { rest = more_of.rest; out = more_of.out; done = closed form c parts top vs more_of.rest more_of.out more_of.done }
+add_closed form c parts top vs more_of = record { rest = more_of.rest; real = more_of.real; out = more_of.out; done = closed form c parts top vs more_of.rest more_of.out more_of.done }
 
 add_wants : (ss : List Symbol) (c : List Wait) (top : List Raw) (vs : List (List Raw)) → plain ss ≡ true → ((parts : List Raw) → Completion c (parts ∷ vs)) → Completion (wants ss c) (top ∷ vs)
 add_wants [] c top vs e more_of = more_of top
@@ -464,17 +506,17 @@ add_undecided : (delay : Delay) (c : List Wait) (parts top : List Raw) (vs : Lis
 add_undecided delay c parts top vs more_of =
     let all : Completion (opens (first_reading (readings delay)) c) (parts ∷ blanks (without_first (first_reading (readings delay))) (top ∷ vs)) =
     add_frames (first_reading (readings delay)) c parts top vs (first_fits delay) more_of in
-    record { rest = all.rest; out = all.out; done = read_as delay (first_reading (readings delay)) c parts (top ∷ vs) all.rest all.out (first_reads delay) all.done }
+    record { rest = all.rest; real = all.real; out = all.out; done = read_as delay (first_reading (readings delay)) c parts (top ∷ vs) all.rest all.out (first_reads delay) all.done }
 
 add_judged : (late : Late) (c : List Wait) (parts top : List Raw) (vs : List (List Raw)) → ((others : List Raw) → Completion c (others ∷ vs)) → Completion (judged late ∷ c) (parts ∷ top ∷ vs)
 add_judged late c parts top vs more_of =
     let all : Completion (wants (late_rest late (verdict late parts)) c) ((top ++ make (late_form late (verdict late parts)) parts) ∷ vs) =
     add_wants (late_rest late (verdict late parts)) c (top ++ make (late_form late (verdict late parts)) parts) vs (late_rest_free late (verdict late parts)) more_of in
-    record { rest = all.rest; out = all.out; done = judged_so late c parts top vs all.rest all.out all.done }
+    record { rest = all.rest; real = all.real; out = all.out; done = judged_so late c parts top vs all.rest all.out all.done }
 
 complete_waits : (c : List Wait) (vs : List (List Raw)) → deep c ≡ length vs → free c ≡ true → Completion c vs
 complete_waits [] [] e f = absurd (omega arith)
-complete_waits [] (raws ∷ []) e f = record { rest = []; out = raws; done = ended raws }
+complete_waits [] (raws ∷ []) e f = record { rest = []; real = All-nil IsReal; out = raws; done = ended raws }
 complete_waits [] (raws ∷ other ∷ vs) e f = absurd (omega arith)
 complete_waits (want symbol ∷ c) [] e f = let some : 0 < deep c = deep_some c in absurd (omega arith)
 complete_waits (want symbol ∷ c) (top ∷ vs) e f = add_wanted symbol c top vs (witness_of symbol (both_left (plain (symbol ∷ [])) (free c) f)) (complete_waits c _ e (both_right (plain (symbol ∷ [])) (free c) f))

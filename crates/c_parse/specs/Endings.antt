@@ -11,7 +11,7 @@ abbrev Layer : Type 0
 Layer = Raw-F Raw
 
 abbrev pub is_jump_layer : Layer → Bool
-is_jump_layer (Raw-F.Leaf Keyword text _) = bytes_eq text.items (codes "break") || (bytes_eq text.items (codes "continue") || bytes_eq text.items (codes "return"))
+is_jump_layer (Raw-F.Leaf Keyword text _) = bytes_eq text (codes "break") || (bytes_eq text (codes "continue") || bytes_eq text (codes "return"))
 is_jump_layer _ = false
 
 -- the leaf is break, continue or return

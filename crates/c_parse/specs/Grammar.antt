@@ -1,5 +1,5 @@
 -- The grammar of the C profile: for each form its alternatives, and the trees that they give.
-use Rattle.std.specs.Prelude.{◌≡◌, ℕ, List, [], ◌∷◌, ◌++◌, Option, Some, None, Bool, true, false, not, length, take, ◌<◌, ◌+◌}
+use Rattle.std.specs.Prelude.{◌≡◌, ℕ, List, [], ◌∷◌, ◌++◌, Option, Some, None, Bool, true, false, not, length, map, take, ◌<◌, ◌≤◌, ◌+◌, All}
 use Rattle.c_parse.specs.declared.class.Class.{Class}
 use Rattle.c_parse.specs.declared.class.Class.TheVariants.{Name, Number, Plus, Minus, Star, Divide, Shift, Relation, Equality, Ampersand, Caret, Bar, AndAnd, BarBar, Complement, Question, Colon, Semicolon, Comma, Open, Close, OpenIndex, CloseIndex, OpenBrace, CloseBrace, Equals, Compound, Increment, Static, Const, Void, Char, Sign, Short, Int, Fixed, Break, Continue, Return, If, Else, While, Do, For, Switch, Case, Default}
 use Rattle.c_parse.specs.declared.raw.RawRule.{RawRule}
@@ -8,16 +8,18 @@ use Rattle.c_parse.specs.declared.raw.Raw.{Raw}
 use Rattle.c_parse.specs.declared.raw.Raw.TheVariants.{Node}
 use Rattle.c_parse.specs.Endings.{ends_in_jump, have_names}
 use Rattle.c_parse.specs.Precedence.{tree_of}
+pub use Rattle.c_parse.specs.Words.{Word, Genuine}
 pub use Rattle.c_parse.specs.declared.form.Within.{Within}
 pub use Rattle.c_parse.specs.declared.form.Within.TheVariants.{Body as in_body, Switch as in_switch, Loop as in_loop}
 pub use Rattle.c_parse.specs.declared.form.Form.{Form}
-pub use Rattle.c_parse.specs.declared.form.Form.TheVariants.{Program as program, Externals as externals, External as external, Unstatic as unstatic, Titled as titled, Signature as signature, Ending as ending, Params as params, ParamList as param_list, MoreParams as more_params, Param as param, ParamName as param_name, Declarators as declarators, MoreDeclarators as more_declarators, Declarator as declarator, Initial as initial, ListInitial as list_initial, MoreValues as more_values, NextValue as next_value, Block as block, Items as items, Item as item, Declaration as declaration, Statement as statement, ElsePart as else_part, Returned as returned, ForFirst as for_first, Tested as tested, Stepped as stepped, Groups as groups, Group as group, Labelled as labelled, Label as label, Action as action, Target as target, Subscript as subscript, Assign as assign, Expr as expr, Choice as choice, Binary as binary, Operations as operations, Unary as unary, Primary as primary, Arguments as arguments, MoreArguments as more_arguments, TypeName as type_name, AfterChar as after_char, AfterSign as after_sign, AfterShort as after_short, AfterInt as after_int, AfterSignShort as after_sign_short, AfterSignInt as after_sign_int, AfterShortInt as after_short_int}
+pub use Rattle.c_parse.specs.declared.form.Form.TheVariants.{Program as program, Externals as externals, External as external, Unstatic as unstatic, Titled as titled, Signature as signature, Ending as ending, Params as params, ParamList as param_list, MoreParams as more_params, Param as param, ParamName as param_name, Declarators as declarators, MoreDeclarators as more_declarators, Declarator as declarator, Initial as initial, ListInitial as list_initial, MoreValues as more_values, NextValue as next_value, Block as block, Items as items, Item as item, Declaration as declaration, Statement as statement, ElsePart as else_part, Returned as returned, ForFirst as for_first, Tested as tested, Stepped as stepped, Groups as groups, Group as group, Labelled as labelled, Label as label, Action as action, Target as target, Subscript as subscript, Subscripted as subscripted, Assign as assign, Expr as expr, Choice as choice, Chosen as chosen, Binary as binary, Operations as operations, Unary as unary, Operand as operand, CastType as cast_type, Primary as primary, Grouped as grouped, Passed as passed, Arguments as arguments, MoreArguments as more_arguments, TypeName as type_name, AfterChar as after_char, AfterSign as after_sign, AfterShort as after_short, AfterInt as after_int, AfterSignShort as after_sign_short, AfterSignInt as after_sign_int, AfterShortInt as after_short_int}
 pub use Rattle.c_parse.specs.declared.form.Symbol.{Symbol}
 pub use Rattle.c_parse.specs.declared.form.Symbol.TheVariants.{Token as token, Sub as sub}
 
--- The parts of a form that has no rule stand among the parts of the form round it.
+-- The parts of a form that has no rule stand among the parts of the form round it; it is held where the parser has to know where it ends.
 pub data Shape : Type 0 where
   spliced : Shape
+  held : Shape
   noded : RawRule → Shape
   levelled : Shape
 
@@ -41,11 +43,18 @@ shape_of binary = levelled
 shape_of unary = noded OfUnary
 shape_of primary = noded OfPrimary
 shape_of type_name = noded OfTypeName
+shape_of operand = held
+shape_of grouped = held
+shape_of subscripted = held
+shape_of passed = held
+shape_of cast_type = held
+shape_of chosen = held
 shape_of _ = spliced
 
 -- What parts of this shape stand for.
 abbrev pub shaped : Shape → List Raw → List Raw
 shaped spliced parts = parts
+shaped held parts = parts
 shaped (noded r) parts = Node r parts ∷ []
 shaped levelled parts = tree_of parts ∷ []
 
@@ -196,7 +205,9 @@ alternatives target =
     (token Name ∷ sub subscript ∷ []) ∷ []
 alternatives subscript =
     [] ∷
-    (token OpenIndex ∷ sub expr ∷ token CloseIndex ∷ []) ∷ []
+    (token OpenIndex ∷ sub subscripted ∷ []) ∷ []
+alternatives subscripted =
+    (sub expr ∷ token CloseIndex ∷ []) ∷ []
 alternatives assign =
     (token Equals ∷ []) ∷
     (token Compound ∷ []) ∷ []
@@ -204,22 +215,32 @@ alternatives expr =
     (sub binary ∷ sub choice ∷ []) ∷ []
 alternatives choice =
     [] ∷
-    (token Question ∷ sub expr ∷ token Colon ∷ sub expr ∷ []) ∷ []
+    (token Question ∷ sub chosen ∷ []) ∷ []
+alternatives chosen =
+    (sub expr ∷ token Colon ∷ sub expr ∷ []) ∷ []
 alternatives binary =
     (sub unary ∷ sub operations ∷ []) ∷ []
 alternatives operations =
     [] ∷ operated operators
 alternatives unary =
-    (token Plus ∷ sub unary ∷ []) ∷
-    (token Minus ∷ sub unary ∷ []) ∷
-    (token Complement ∷ sub unary ∷ []) ∷
-    (token Open ∷ sub type_name ∷ token Close ∷ sub unary ∷ []) ∷
+    (token Plus ∷ sub operand ∷ []) ∷
+    (token Minus ∷ sub operand ∷ []) ∷
+    (token Complement ∷ sub operand ∷ []) ∷
+    (token Open ∷ sub cast_type ∷ sub operand ∷ []) ∷
     (sub primary ∷ []) ∷ []
+alternatives operand =
+    (sub unary ∷ []) ∷ []
+alternatives cast_type =
+    (sub type_name ∷ token Close ∷ []) ∷ []
 alternatives primary =
     (token Number ∷ []) ∷
     (token Name ∷ sub subscript ∷ []) ∷
-    (token Name ∷ token Open ∷ sub arguments ∷ token Close ∷ []) ∷
-    (token Open ∷ sub expr ∷ token Close ∷ []) ∷ []
+    (token Name ∷ token Open ∷ sub passed ∷ []) ∷
+    (token Open ∷ sub grouped ∷ []) ∷ []
+alternatives grouped =
+    (sub expr ∷ token Close ∷ []) ∷ []
+alternatives passed =
+    (sub arguments ∷ token Close ∷ []) ∷ []
 alternatives arguments =
     [] ∷
     (sub expr ∷ sub more_arguments ∷ []) ∷ []
@@ -294,47 +315,122 @@ allows (group _ ended) symbols parts next = same_answer ended (ends_in_jump part
 allows (params named) symbols parts next = same_answer named (have_names parts)
 allows _ symbols parts next = true
 
--- A token: its class, and its leaf in a tree.
-pub record Word : Type 0 where
+-- How much deeper the tokens of such a part are nested than the part itself: by one in a statement, in what a unary operator or a cast is applied
+-- to, and between a (, [ or ? of an expression and its end.
+abbrev pub weight : Form → ℕ
+weight (statement _) = 1
+weight operand = 1
+weight grouped = 1
+weight subscripted = 1
+weight passed = 1
+weight cast_type = 1
+weight chosen = 1
+weight _ = 0
+
+-- A token in a text, with its level there: how deep it is nested.
+pub record Nested : Type 0 where
   pub class : Class
   pub leaf : Raw
+  pub level : ℕ
 
 -- the class of the token that stands in front of these, behind which comes next
-abbrev pub ahead : List Word → Option Class → Option Class
+abbrev pub ahead : List Nested → Option Class → Option Class
 ahead [] next = next
 ahead (word ∷ _) next = Some word.class
 
--- The words derive the trees from the symbol, where a token of this class comes next.
+-- The tokens derive the trees from the symbol, which stands this deep, where a token of this class comes next.
 mutual
-  pub data Derives : Symbol → List Raw → List Word → Option Class → Type 0 where
-    leaf : (class : Class) (word : Word) (next : Option Class) → word.class ≡ class → Derives (token class) (word.leaf ∷ []) (word ∷ []) next
-    node : (form : Form) (symbols : List Symbol) (parts raws : List Raw) (words : List Word) (next : Option Class)
+  pub data Derives : ℕ → Symbol → List Raw → List Nested → Option Class → Type 0 where
+    leaf : (depth : ℕ) (class : Class) (word : Nested) (next : Option Class) → word.class ≡ class → word.level ≡ depth → Derives depth (token class) (word.leaf ∷ []) (word ∷ []) next
+    node : (depth : ℕ) (form : Form) (symbols : List Symbol) (parts raws : List Raw) (words : List Nested) (next : Option Class)
         → OneOf symbols (alternatives form) → allows form symbols parts next ≡ true → raws ≡ make form parts
-        → DeriveAll symbols parts words next → Derives (sub form) raws words next
+        → DeriveAll (depth + weight form) symbols parts words next → Derives depth (sub form) raws words next
 
-  pub data DeriveAll : List Symbol → List Raw → List Word → Option Class → Type 0 where
-    none : (next : Option Class) → DeriveAll [] [] [] next
-    more : (symbol : Symbol) (symbols : List Symbol) (raws parts all : List Raw) (front rest words : List Word) (next : Option Class)
-        → Derives symbol raws front (ahead rest next) → DeriveAll symbols parts rest next → all ≡ raws ++ parts → words ≡ front ++ rest
-        → DeriveAll (symbol ∷ symbols) all words next
+  pub data DeriveAll : ℕ → List Symbol → List Raw → List Nested → Option Class → Type 0 where
+    none : (depth : ℕ) (next : Option Class) → DeriveAll depth [] [] [] next
+    more : (depth : ℕ) (symbol : Symbol) (symbols : List Symbol) (raws parts all : List Raw) (front rest words : List Nested) (next : Option Class)
+        → Derives depth symbol raws front (ahead rest next) → DeriveAll depth symbols parts rest next → all ≡ raws ++ parts → words ≡ front ++ rest
+        → DeriveAll depth (symbol ∷ symbols) all words next
+
+-- the token without its level, and with one
+abbrev pub word_at : Nested → Word
+word_at nested = record { class = nested.class; leaf = nested.leaf }
+
+abbrev pub nested_at : ℕ → Word → Nested
+nested_at level word = record { class = word.class; leaf = word.leaf; level = level }
+
+abbrev pub bare : List Nested → List Word
+bare text = map word_at text
+
+-- The tokens at these levels are a text of the grammar, and this is its tree.
+abbrev pub IsText : List Nested → Raw → Type 0
+IsText text raw = Derives 0 (sub program) (raw ∷ []) text None
+
+-- a leaf that is a token of the word's class
+abbrev pub IsReal : Nested → Type 0
+IsReal nested = Genuine (word_at nested)
+
+-- Some text of the grammar begins with these tokens at these levels, and goes on with tokens.
+pub record Begins (front : List Nested) : Type 0 where
+  pub more : List Nested
+  pub real : All IsReal more
+  pub raw : Raw
+  pub text : IsText (front ++ more) raw
 
 -- The words are a text of the grammar, and this is its tree.
-abbrev pub Parses : List Word → Raw → Type 0
-Parses words raw = Derives (sub program) (raw ∷ []) words None
+pub record Parses (words : List Word) (raw : Raw) : Type 0 where
+  pub text : List Nested
+  pub are : bare text ≡ words
+  pub derives : IsText text raw
 
 -- Some text of the grammar begins with these words.
 pub record IsOpen (words : List Word) : Type 0 where
-  pub more : List Word
-  pub raw : Raw
-  pub derives : Parses (words ++ more) raw
+  pub front : List Nested
+  pub are : bare front ≡ words
+  pub begins : Begins front
 
--- The words before this one begin a text of the grammar, and with it they don't.
+-- Some text of the grammar begins with these words and has this one behind them, at this level.
+pub record StandsAt (level : ℕ) (before : List Word) (word : Word) : Type 0 where
+  pub front : List Nested
+  pub are : bare front ≡ before
+  pub begins : Begins (front ++ nested_at level word ∷ [])
+
+-- How deep tokens may be nested.
+abbrev pub IsShallow : Nested → Type 0
+IsShallow nested = nested.level ≤ 64
+
+-- Some text of the grammar begins with these words, none of which is nested too deep there.
+pub record IsFit (words : List Word) : Type 0 where
+  pub front : List Nested
+  pub are : bare front ≡ words
+  pub shallow : All IsShallow front
+  pub begins : Begins front
+
+-- The fault stands at the first word with which the words are nested too deep, or begin no text of the grammar.
 pub record FirstFault (words : List Word) (at : ℕ) : Type 0 where
   pub within : at < length words
-  pub before : IsOpen (take at words)
-  pub stops : IsOpen (take (at + 1) words) → ⊥
+  pub before : IsFit (take at words)
+  pub stops : IsFit (take (at + 1) words) → ⊥
 
 -- The words begin a text of the grammar, and are none: the fault stands at the end.
 pub record EndsEarly (words : List Word) : Type 0 where
-  pub begins : IsOpen words
+  pub begins : IsFit words
   pub not_whole : (raw : Raw) → Parses words raw → ⊥
+
+-- The last of the words is a (, [ or ?.
+abbrev pub is_bracket : Class → Bool
+is_bracket Open = true
+is_bracket OpenIndex = true
+is_bracket Question = true
+is_bracket _ = false
+
+abbrev pub ends_in_bracket : List Word → Bool
+ends_in_bracket [] = false
+ends_in_bracket (last ∷ []) = is_bracket last.class
+ends_in_bracket (first ∷ second ∷ rest) = ends_in_bracket (second ∷ rest)
+
+-- This word is nested too deep behind these: it stands deeper than level 64 in some text of the grammar, or it fits no text behind them and stands
+-- right behind a (, [ or ? in which tokens are nested too deep. What would begin with a word doesn't count where it fits nothing.
+pub data IsTooDeep (before : List Word) (word : Word) : Type 0 where
+  in_text : (level : ℕ) → 64 < level → StandsAt level before word → IsTooDeep before word
+  in_bracket : (level : ℕ) (other : Word) → Genuine other → 64 < level → (IsOpen (before ++ word ∷ []) → ⊥) → ends_in_bracket before ≡ true → StandsAt level before other → IsTooDeep before word

@@ -1,5 +1,11 @@
+pub mod Classes
 pub mod Endings
+pub mod Faults
 pub mod Grammar
+pub mod Grouping
 pub mod Machine
+pub mod Pending
 pub mod Precedence
 pub mod Steps
+pub mod Turning
+pub mod Words

@@ -1,10 +1,10 @@
 -- The pushdown machine over the grammar: what it waits for, what it built, and its moves.
-use Rattle.std.specs.Prelude.{◌≡◌, ℕ, zero, suc, List, [], ◌∷◌, ◌++◌, Option, Some, None, Bool, true, false, cond}
+use Rattle.std.specs.Prelude.{◌≡◌, ℕ, zero, suc, List, [], ◌∷◌, ◌++◌, Option, Some, None, Bool, true, false, cond, ◌+◌}
 use Rattle.c_parse.specs.declared.class.Class.{Class}
 use Rattle.c_parse.specs.declared.class.Class.TheVariants.{Name, Number, Plus, Minus, Star, Divide, Shift, Relation, Equality, Ampersand, Caret, Bar, AndAnd, BarBar, Complement, Question, Semicolon, Comma, Open, Close, OpenIndex, OpenBrace, CloseBrace, Equals, Compound, Increment, Static, Const, Void, Char, Sign, Short, Int, Fixed, Break, Continue, Return, If, Else, While, Do, For, Switch, Case, Default}
 use Rattle.c_parse.specs.declared.raw.Raw.{Raw}
 use Rattle.c_parse.specs.Endings.{ends_in_jump, have_names}
-use Rattle.c_parse.specs.Grammar.{Within, in_switch, in_loop, Form, program, externals, external, unstatic, titled, signature, ending, params, param_list, more_params, param, param_name, declarators, more_declarators, declarator, initial, list_initial, more_values, next_value, block, items, item, declaration, statement, else_part, returned, for_first, tested, stepped, groups, group, labelled, label, action, target, subscript, assign, expr, choice, binary, operations, unary, primary, arguments, more_arguments, type_name, after_char, after_sign, after_short, after_int, after_sign_short, after_sign_int, after_short_int, Symbol, token, sub, alternatives, shape_of, Shape, spliced, make, Word, ahead}
+use Rattle.c_parse.specs.Grammar.{Within, in_switch, in_loop, Form, program, externals, external, unstatic, titled, signature, ending, params, param_list, more_params, param, param_name, declarators, more_declarators, declarator, initial, list_initial, more_values, next_value, block, items, item, declaration, statement, else_part, returned, for_first, tested, stepped, groups, group, labelled, label, action, target, subscript, subscripted, assign, expr, choice, chosen, binary, operations, unary, operand, cast_type, primary, grouped, passed, arguments, more_arguments, type_name, after_char, after_sign, after_short, after_int, after_sign_short, after_sign_int, after_short_int, Symbol, token, sub, alternatives, shape_of, Shape, spliced, make, weight, Nested, ahead}
 use Rattle.c_parse.specs.declared.form.Wait.{Wait}
 pub use Rattle.c_parse.specs.declared.form.Wait.TheVariants.{Want as want, Close as close, Choose as undecided, Judge as judged}
 pub use Rattle.c_parse.specs.declared.form.Delay.{Delay}
@@ -280,13 +280,19 @@ choose label look = choose_label look
 choose action look = choose_action look
 choose target look = take_on 0
 choose subscript look = on_open_index look
+choose subscripted look = take_on 0
 choose assign look = choose_assign look
 choose expr look = when (begins_unary look) (take_on 0)
 choose choice look = on_question look
+choose chosen look = take_on 0
 choose binary look = take_on 0
 choose operations look = choose_operations look
 choose unary look = choose_unary look
+choose operand look = when (begins_unary look) (take_on 0)
+choose cast_type look = take_on 0
 choose primary look = choose_primary look
+choose grouped look = take_on 0
+choose passed look = take_on 0
 choose arguments look = until_close look
 choose more_arguments look = on_comma look
 choose type_name look = choose_type look
@@ -318,11 +324,11 @@ operand_of_action = frame unary [] ∷ frame binary (sub operations ∷ []) ∷ 
 -- What a delayed choice may turn out to be, behind what was read.
 abbrev pub readings : Delay → List (List Frame)
 readings opened =
-    (frame unary (sub type_name ∷ token Close ∷ sub unary ∷ []) ∷ []) ∷
-    (frame primary (sub expr ∷ token Close ∷ []) ∷ frame unary [] ∷ []) ∷ []
+    (frame unary (sub cast_type ∷ sub operand ∷ []) ∷ []) ∷
+    (frame primary (sub grouped ∷ []) ∷ frame unary [] ∷ []) ∷ []
 readings called =
     (frame primary (sub subscript ∷ []) ∷ []) ∷
-    (frame primary (token Open ∷ sub arguments ∷ token Close ∷ []) ∷ []) ∷ []
+    (frame primary (token Open ∷ sub passed ∷ []) ∷ []) ∷ []
 readings named =
     (frame titled (token Open ∷ sub signature ∷ []) ∷ []) ∷
     (frame declarator (sub initial ∷ []) ∷ frame declarators (sub more_declarators ∷ []) ∷ frame titled (token Semicolon ∷ []) ∷ []) ∷ []
@@ -330,7 +336,7 @@ readings begun =
     (frame target (sub subscript ∷ []) ∷ frame action (sub assign ∷ sub expr ∷ []) ∷ []) ∷
     (frame target (sub subscript ∷ []) ∷ frame action (token Increment ∷ []) ∷ []) ∷
     (frame primary (sub subscript ∷ []) ∷ operand_of_action) ∷
-    (frame primary (token Open ∷ sub arguments ∷ token Close ∷ []) ∷ operand_of_action) ∷ []
+    (frame primary (token Open ∷ sub passed ∷ []) ∷ operand_of_action) ∷ []
 readings indexed =
     (frame target [] ∷ frame action (sub assign ∷ sub expr ∷ []) ∷ []) ∷
     (frame target [] ∷ frame action (token Increment ∷ []) ∷ []) ∷
@@ -450,14 +456,20 @@ turn (undecided delay ∷ c) (parts ∷ vs) look = turn_told (tell delay look) d
 turn (judged late ∷ c) (parts ∷ top ∷ vs) look = Some (at (wants (late_rest late (verdict late parts)) c) ((top ++ make (late_form late (verdict late parts)) parts) ∷ vs))
 turn _ _ _ = None
 
--- One move: from what is waited for, the lists that are built and the words left.
-pub data Move : List Wait → List (List Raw) → List Word → List Wait → List (List Raw) → List Word → Type 0 where
-  turns : (c : List Wait) (vs : List (List Raw)) (c2 : List Wait) (vs2 : List (List Raw)) (ts : List Word) → turn c vs (ahead ts None) ≡ Some (at c2 vs2) → Move c vs ts c2 vs2 ts
-  shift : (class : Class) (word : Word) (c : List Wait) (top : List Raw) (vs : List (List Raw)) (ts : List Word) → word.class ≡ class
+-- How deep the next token is nested: what holds it is what is still to be closed.
+abbrev pub level : List Wait → ℕ
+level [] = 0
+level (close form ∷ c) = level c + weight form
+level (_ ∷ c) = level c
+
+-- One move: from what is waited for, the lists that are built and the tokens left.
+pub data Move : List Wait → List (List Raw) → List Nested → List Wait → List (List Raw) → List Nested → Type 0 where
+  turns : (c : List Wait) (vs : List (List Raw)) (c2 : List Wait) (vs2 : List (List Raw)) (ts : List Nested) → turn c vs (ahead ts None) ≡ Some (at c2 vs2) → Move c vs ts c2 vs2 ts
+  shift : (class : Class) (word : Nested) (c : List Wait) (top : List Raw) (vs : List (List Raw)) (ts : List Nested) → word.class ≡ class → word.level ≡ level c
       → Move (want (token class) ∷ c) (top ∷ vs) (word ∷ ts) c ((top ++ word.leaf ∷ []) ∷ vs) ts
 
 -- any number of moves
-pub data Moves : List Wait → List (List Raw) → List Word → List Wait → List (List Raw) → List Word → Type 0 where
-  stay : (c : List Wait) (vs : List (List Raw)) (ts : List Word) → Moves c vs ts c vs ts
-  go : (c : List Wait) (vs : List (List Raw)) (ts : List Word) (c2 : List Wait) (vs2 : List (List Raw)) (ts2 : List Word) (c3 : List Wait) (vs3 : List (List Raw)) (ts3 : List Word)
+pub data Moves : List Wait → List (List Raw) → List Nested → List Wait → List (List Raw) → List Nested → Type 0 where
+  stay : (c : List Wait) (vs : List (List Raw)) (ts : List Nested) → Moves c vs ts c vs ts
+  go : (c : List Wait) (vs : List (List Raw)) (ts : List Nested) (c2 : List Wait) (vs2 : List (List Raw)) (ts2 : List Nested) (c3 : List Wait) (vs3 : List (List Raw)) (ts3 : List Nested)
       → Move c vs ts c2 vs2 ts2 → Moves c2 vs2 ts2 c3 vs3 ts3 → Moves c vs ts c3 vs3 ts3

@@ -1,5 +1,5 @@
 -- The tree of operands with operators between them (C11 6.5.5 to 6.5.14): all of them associate to the left.
-use Rattle.std.specs.Prelude.{ℕ, List, [], ◌∷◌, Bool, true, false, cond, codes, ◌||◌}
+use Rattle.std.specs.Prelude.{ℕ, zero, suc, List, [], ◌∷◌, Bool, false, cond, codes, nat_lt, ◌||◌}
 use Rattle.std.specs.Str.{bytes_eq}
 use Rattle.c_parse.specs.declared.raw.Raw.{Raw, out-Raw}
 use Rattle.c_parse.specs.declared.raw.Raw.TheVariants.{Node}
@@ -24,30 +24,34 @@ operator_rows =
     (codes "+" ∷ codes "-" ∷ []) ∷
     (codes "*" ∷ codes "/" ∷ codes "%" ∷ []) ∷ []
 
+-- The number of the first row that has the text, or of rows where none has it.
+abbrev pub row_of : List (List (List ℕ)) → List ℕ → ℕ
+row_of [] text = zero
+row_of (row ∷ rows) text = cond (among text row) zero (suc (row_of rows text))
+
 abbrev pub text_of_layer : Raw-F Raw → List ℕ
-text_of_layer (Raw-F.Leaf _ text _) = text.items
+text_of_layer (Raw-F.Leaf _ text _) = text
 text_of_layer _ = []
 
 abbrev pub text_of : Raw → List ℕ
 text_of raw = text_of_layer (out-Raw raw)
 
--- The second operator binds more tightly than the first: it stands in a later row.
-abbrev pub binds_tighter : List (List (List ℕ)) → List ℕ → List ℕ → Bool
-binds_tighter [] first second = false
-binds_tighter (row ∷ rows) first second = cond (among second row) false (cond (among first row) true (binds_tighter rows first second))
+-- How tightly an operator binds: 0 the loosest, 9 the tightest, and 10 what is no operator.
+unfoldable pub level_of : Raw → ℕ
+level_of operator = row_of operator_rows (text_of operator)
 
 pub data Operands : Type 0 where
   operand : Raw → Operands
   joined : Operands → Raw → Operands → Operands
 
 -- One more operator with its right operand: its left operand reaches back over the operators that bind as tightly or more.
-abbrev pub join : Operands → Raw → Raw → Operands
-join (operand a) operator b = joined (operand a) operator (operand b)
+abbrev pub join : Operands → Raw → Operands → Operands
+join (operand a) operator b = joined (operand a) operator b
 join (joined left first right) operator b =
-    cond (binds_tighter operator_rows (text_of first) (text_of operator)) (joined left first (join right operator b)) (joined (joined left first right) operator (operand b))
+    cond (nat_lt (level_of first) (level_of operator)) (joined left first (join right operator b)) (joined (joined left first right) operator b)
 
 abbrev pub gather : Operands → List Raw → Operands
-gather operands (operator ∷ b ∷ rest) = gather (join operands operator b) rest
+gather operands (operator ∷ b ∷ rest) = gather (join operands operator (operand b)) rest
 gather operands _ = operands
 
 abbrev pub raw_of : Operands → Raw

@@ -7,30 +7,22 @@ ghost use Rattle.c_parse.specs.declared.form.Form.{Form};
 use crate::class::Class;
 use crate::form::{Form, Symbol, Wait, Within};
 use crate::no_memory::NoMemory;
+use crate::waits::Waits;
 use Symbol::{Sub, Token};
 
-pub fn wait(waits: &mut Vec<Wait>, wait: Wait) -> Result<(), NoMemory>
-    ensures { OnOk result (reverse waits.new.items ≡ wait ∷ reverse waits.old.items) }
-{
-    match waits.push(wait) {
-        Ok(()) => Ok(()),
-        Err(_) => Err(NoMemory),
-    }
-}
-
 // The symbols are waited for, the first of them next.
-pub fn want(waits: &mut Vec<Wait>, symbols: &[Symbol]) -> Result<bool, NoMemory>
-    ensures { IfOk result (λ done. (done ≡ true) × (reverse waits.new.items ≡ wants symbols.now (reverse waits.old.items))) }
+pub fn want(waits: &mut Waits, symbols: &[Symbol]) -> Result<bool, NoMemory>
+    ensures { IfOk result (λ done. (done ≡ true) × (reverse waits.new.stack.items ≡ wants symbols.now (reverse waits.old.stack.items))) }
 {
     let mut left = symbols.len();
     while left > 0 {
         left -= 1;
-        wait(waits, Wait::Want(symbols[left]))?;
+        waits.push(Wait::Want(symbols[left]))?;
     }
     Ok(true)
 }
 
-fn begins_type(look: Option<Class>) -> bool
+pub fn begins_type(look: Option<Class>) -> bool
     ensures { result ≡ begins_type look }
 {
     matches!(
@@ -106,8 +98,8 @@ fn switched(within: Within) -> Within
     }
 }
 
-fn choose_unstatic(waits: &mut Vec<Wait>, look: Option<Class>) -> Result<bool, NoMemory>
-    ensures { IfOk result (λ done. Unfolds (symbols_of (choose Form.Unstatic look) Form.Unstatic) done waits.old.items waits.new.items) }
+fn choose_unstatic(waits: &mut Waits, look: Option<Class>) -> Result<bool, NoMemory>
+    ensures { IfOk result (λ done. Unfolds (symbols_of (choose Form.Unstatic look) Form.Unstatic) done waits.old.stack.items waits.new.stack.items) }
 {
     match look {
         Some(Class::Const) => want(
@@ -138,8 +130,8 @@ fn choose_unstatic(waits: &mut Vec<Wait>, look: Option<Class>) -> Result<bool, N
     }
 }
 
-fn choose_ending(waits: &mut Vec<Wait>, all: bool, look: Option<Class>) -> Result<bool, NoMemory>
-    ensures { IfOk result (λ done. Unfolds (symbols_of (choose (Form.Ending all) look) (Form.Ending all)) done waits.old.items waits.new.items) }
+fn choose_ending(waits: &mut Waits, all: bool, look: Option<Class>) -> Result<bool, NoMemory>
+    ensures { IfOk result (λ done. Unfolds (symbols_of (choose (Form.Ending all) look) (Form.Ending all)) done waits.old.stack.items waits.new.stack.items) }
 {
     match look {
         Some(Class::Semicolon) => want(waits, &[Token(Class::Semicolon)]),
@@ -154,8 +146,8 @@ fn choose_ending(waits: &mut Vec<Wait>, all: bool, look: Option<Class>) -> Resul
     }
 }
 
-fn choose_param_list(waits: &mut Vec<Wait>, look: Option<Class>) -> Result<bool, NoMemory>
-    ensures { IfOk result (λ done. Unfolds (symbols_of (choose Form.ParamList look) Form.ParamList) done waits.old.items waits.new.items) }
+fn choose_param_list(waits: &mut Waits, look: Option<Class>) -> Result<bool, NoMemory>
+    ensures { IfOk result (λ done. Unfolds (symbols_of (choose Form.ParamList look) Form.ParamList) done waits.old.stack.items waits.new.stack.items) }
 {
     match look {
         Some(Class::Close) => Ok(true),
@@ -164,8 +156,8 @@ fn choose_param_list(waits: &mut Vec<Wait>, look: Option<Class>) -> Result<bool,
     }
 }
 
-fn choose_param(waits: &mut Vec<Wait>, look: Option<Class>) -> Result<bool, NoMemory>
-    ensures { IfOk result (λ done. Unfolds (symbols_of (choose Form.Param look) Form.Param) done waits.old.items waits.new.items) }
+fn choose_param(waits: &mut Waits, look: Option<Class>) -> Result<bool, NoMemory>
+    ensures { IfOk result (λ done. Unfolds (symbols_of (choose Form.Param look) Form.Param) done waits.old.stack.items waits.new.stack.items) }
 {
     match look {
         Some(Class::Const) => want(
@@ -186,8 +178,8 @@ fn choose_param(waits: &mut Vec<Wait>, look: Option<Class>) -> Result<bool, NoMe
     }
 }
 
-fn choose_initial(waits: &mut Vec<Wait>, look: Option<Class>) -> Result<bool, NoMemory>
-    ensures { IfOk result (λ done. Unfolds (symbols_of (choose Form.Initial look) Form.Initial) done waits.old.items waits.new.items) }
+fn choose_initial(waits: &mut Waits, look: Option<Class>) -> Result<bool, NoMemory>
+    ensures { IfOk result (λ done. Unfolds (symbols_of (choose Form.Initial look) Form.Initial) done waits.old.stack.items waits.new.stack.items) }
 {
     match look {
         Some(Class::Equals) => want(waits, &[Token(Class::Equals), Sub(Form::Expr)]),
@@ -204,12 +196,8 @@ fn choose_initial(waits: &mut Vec<Wait>, look: Option<Class>) -> Result<bool, No
     }
 }
 
-fn choose_items(
-    waits: &mut Vec<Wait>,
-    within: Within,
-    look: Option<Class>,
-) -> Result<bool, NoMemory>
-    ensures { IfOk result (λ done. Unfolds (symbols_of (choose (Form.Items within) look) (Form.Items within)) done waits.old.items waits.new.items) }
+fn choose_items(waits: &mut Waits, within: Within, look: Option<Class>) -> Result<bool, NoMemory>
+    ensures { IfOk result (λ done. Unfolds (symbols_of (choose (Form.Items within) look) (Form.Items within)) done waits.old.stack.items waits.new.stack.items) }
 {
     match look {
         Some(Class::CloseBrace | Class::Case | Class::Default) | None => Ok(true),
@@ -217,8 +205,8 @@ fn choose_items(
     }
 }
 
-fn choose_declaration(waits: &mut Vec<Wait>, look: Option<Class>) -> Result<bool, NoMemory>
-    ensures { IfOk result (λ done. Unfolds (symbols_of (choose Form.Declaration look) Form.Declaration) done waits.old.items waits.new.items) }
+fn choose_declaration(waits: &mut Waits, look: Option<Class>) -> Result<bool, NoMemory>
+    ensures { IfOk result (λ done. Unfolds (symbols_of (choose Form.Declaration look) Form.Declaration) done waits.old.stack.items waits.new.stack.items) }
 {
     match look {
         Some(Class::Const) => want(
@@ -248,11 +236,11 @@ fn choose_declaration(waits: &mut Vec<Wait>, look: Option<Class>) -> Result<bool
 }
 
 fn choose_statement(
-    waits: &mut Vec<Wait>,
+    waits: &mut Waits,
     within: Within,
     look: Option<Class>,
 ) -> Result<bool, NoMemory>
-    ensures { IfOk result (λ done. Unfolds (symbols_of (choose (Form.Statement within) look) (Form.Statement within)) done waits.old.items waits.new.items) }
+    ensures { IfOk result (λ done. Unfolds (symbols_of (choose (Form.Statement within) look) (Form.Statement within)) done waits.old.stack.items waits.new.stack.items) }
 {
     match look {
         Some(Class::OpenBrace) => want(waits, &[Sub(Form::Block(within))]),
@@ -343,8 +331,8 @@ fn choose_statement(
     }
 }
 
-fn choose_for_first(waits: &mut Vec<Wait>, look: Option<Class>) -> Result<bool, NoMemory>
-    ensures { IfOk result (λ done. Unfolds (symbols_of (choose Form.ForFirst look) Form.ForFirst) done waits.old.items waits.new.items) }
+fn choose_for_first(waits: &mut Waits, look: Option<Class>) -> Result<bool, NoMemory>
+    ensures { IfOk result (λ done. Unfolds (symbols_of (choose Form.ForFirst look) Form.ForFirst) done waits.old.stack.items waits.new.stack.items) }
 {
     match look {
         Some(Class::Semicolon) => want(waits, &[Token(Class::Semicolon)]),
@@ -360,12 +348,8 @@ fn choose_for_first(waits: &mut Vec<Wait>, look: Option<Class>) -> Result<bool, 
     }
 }
 
-fn choose_labelled(
-    waits: &mut Vec<Wait>,
-    within: Within,
-    look: Option<Class>,
-) -> Result<bool, NoMemory>
-    ensures { IfOk result (λ done. Unfolds (symbols_of (choose (Form.Labelled within) look) (Form.Labelled within)) done waits.old.items waits.new.items) }
+fn choose_labelled(waits: &mut Waits, within: Within, look: Option<Class>) -> Result<bool, NoMemory>
+    ensures { IfOk result (λ done. Unfolds (symbols_of (choose (Form.Labelled within) look) (Form.Labelled within)) done waits.old.stack.items waits.new.stack.items) }
 {
     match look {
         Some(Class::Case | Class::Default) => want(
@@ -377,8 +361,8 @@ fn choose_labelled(
     }
 }
 
-fn choose_label(waits: &mut Vec<Wait>, look: Option<Class>) -> Result<bool, NoMemory>
-    ensures { IfOk result (λ done. Unfolds (symbols_of (choose Form.Label look) Form.Label) done waits.old.items waits.new.items) }
+fn choose_label(waits: &mut Waits, look: Option<Class>) -> Result<bool, NoMemory>
+    ensures { IfOk result (λ done. Unfolds (symbols_of (choose Form.Label look) Form.Label) done waits.old.stack.items waits.new.stack.items) }
 {
     match look {
         Some(Class::Case) => want(
@@ -390,8 +374,8 @@ fn choose_label(waits: &mut Vec<Wait>, look: Option<Class>) -> Result<bool, NoMe
     }
 }
 
-fn choose_assign(waits: &mut Vec<Wait>, look: Option<Class>) -> Result<bool, NoMemory>
-    ensures { IfOk result (λ done. Unfolds (symbols_of (choose Form.Assign look) Form.Assign) done waits.old.items waits.new.items) }
+fn choose_assign(waits: &mut Waits, look: Option<Class>) -> Result<bool, NoMemory>
+    ensures { IfOk result (λ done. Unfolds (symbols_of (choose Form.Assign look) Form.Assign) done waits.old.stack.items waits.new.stack.items) }
 {
     match look {
         Some(Class::Equals) => want(waits, &[Token(Class::Equals)]),
@@ -400,8 +384,8 @@ fn choose_assign(waits: &mut Vec<Wait>, look: Option<Class>) -> Result<bool, NoM
     }
 }
 
-fn choose_operations(waits: &mut Vec<Wait>, look: Option<Class>) -> Result<bool, NoMemory>
-    ensures { IfOk result (λ done. Unfolds (symbols_of (choose Form.Operations look) Form.Operations) done waits.old.items waits.new.items) }
+fn choose_operations(waits: &mut Waits, look: Option<Class>) -> Result<bool, NoMemory>
+    ensures { IfOk result (λ done. Unfolds (symbols_of (choose Form.Operations look) Form.Operations) done waits.old.stack.items waits.new.stack.items) }
 {
     match look {
         Some(Class::Star) => want(
@@ -480,33 +464,30 @@ fn choose_operations(waits: &mut Vec<Wait>, look: Option<Class>) -> Result<bool,
     }
 }
 
-fn choose_unary(waits: &mut Vec<Wait>, look: Option<Class>) -> Result<bool, NoMemory>
-    ensures { IfOk result (λ done. Unfolds (symbols_of (choose Form.Unary look) Form.Unary) done waits.old.items waits.new.items) }
+fn choose_unary(waits: &mut Waits, look: Option<Class>) -> Result<bool, NoMemory>
+    ensures { IfOk result (λ done. Unfolds (symbols_of (choose Form.Unary look) Form.Unary) done waits.old.stack.items waits.new.stack.items) }
 {
     match look {
-        Some(Class::Plus) => want(waits, &[Token(Class::Plus), Sub(Form::Unary)]),
-        Some(Class::Minus) => want(waits, &[Token(Class::Minus), Sub(Form::Unary)]),
-        Some(Class::Complement) => want(waits, &[Token(Class::Complement), Sub(Form::Unary)]),
+        Some(Class::Plus) => want(waits, &[Token(Class::Plus), Sub(Form::Operand)]),
+        Some(Class::Minus) => want(waits, &[Token(Class::Minus), Sub(Form::Operand)]),
+        Some(Class::Complement) => want(waits, &[Token(Class::Complement), Sub(Form::Operand)]),
         Some(Class::Name | Class::Number) => want(waits, &[Sub(Form::Primary)]),
         _ => Ok(false),
     }
 }
 
-fn choose_primary(waits: &mut Vec<Wait>, look: Option<Class>) -> Result<bool, NoMemory>
-    ensures { IfOk result (λ done. Unfolds (symbols_of (choose Form.Primary look) Form.Primary) done waits.old.items waits.new.items) }
+fn choose_primary(waits: &mut Waits, look: Option<Class>) -> Result<bool, NoMemory>
+    ensures { IfOk result (λ done. Unfolds (symbols_of (choose Form.Primary look) Form.Primary) done waits.old.stack.items waits.new.stack.items) }
 {
     match look {
         Some(Class::Number) => want(waits, &[Token(Class::Number)]),
-        Some(Class::Open) => want(
-            waits,
-            &[Token(Class::Open), Sub(Form::Expr), Token(Class::Close)],
-        ),
+        Some(Class::Open) => want(waits, &[Token(Class::Open), Sub(Form::Grouped)]),
         _ => Ok(false),
     }
 }
 
-fn choose_type_name(waits: &mut Vec<Wait>, look: Option<Class>) -> Result<bool, NoMemory>
-    ensures { IfOk result (λ done. Unfolds (symbols_of (choose Form.TypeName look) Form.TypeName) done waits.old.items waits.new.items) }
+fn choose_type_name(waits: &mut Waits, look: Option<Class>) -> Result<bool, NoMemory>
+    ensures { IfOk result (λ done. Unfolds (symbols_of (choose Form.TypeName look) Form.TypeName) done waits.old.stack.items waits.new.stack.items) }
 {
     match look {
         Some(Class::Fixed) => want(waits, &[Token(Class::Fixed)]),
@@ -518,8 +499,8 @@ fn choose_type_name(waits: &mut Vec<Wait>, look: Option<Class>) -> Result<bool, 
     }
 }
 
-fn choose_after_sign(waits: &mut Vec<Wait>, look: Option<Class>) -> Result<bool, NoMemory>
-    ensures { IfOk result (λ done. Unfolds (symbols_of (choose Form.AfterSign look) Form.AfterSign) done waits.old.items waits.new.items) }
+fn choose_after_sign(waits: &mut Waits, look: Option<Class>) -> Result<bool, NoMemory>
+    ensures { IfOk result (λ done. Unfolds (symbols_of (choose Form.AfterSign look) Form.AfterSign) done waits.old.stack.items waits.new.stack.items) }
 {
     match look {
         Some(Class::Char) => want(waits, &[Token(Class::Char)]),
@@ -529,8 +510,8 @@ fn choose_after_sign(waits: &mut Vec<Wait>, look: Option<Class>) -> Result<bool,
     }
 }
 
-fn choose_after_short(waits: &mut Vec<Wait>, look: Option<Class>) -> Result<bool, NoMemory>
-    ensures { IfOk result (λ done. Unfolds (symbols_of (choose Form.AfterShort look) Form.AfterShort) done waits.old.items waits.new.items) }
+fn choose_after_short(waits: &mut Waits, look: Option<Class>) -> Result<bool, NoMemory>
+    ensures { IfOk result (λ done. Unfolds (symbols_of (choose Form.AfterShort look) Form.AfterShort) done waits.old.stack.items waits.new.stack.items) }
 {
     match look {
         Some(Class::Sign) => want(waits, &[Token(Class::Sign), Sub(Form::AfterSignShort)]),
@@ -539,8 +520,8 @@ fn choose_after_short(waits: &mut Vec<Wait>, look: Option<Class>) -> Result<bool
     }
 }
 
-fn choose_after_int(waits: &mut Vec<Wait>, look: Option<Class>) -> Result<bool, NoMemory>
-    ensures { IfOk result (λ done. Unfolds (symbols_of (choose Form.AfterInt look) Form.AfterInt) done waits.old.items waits.new.items) }
+fn choose_after_int(waits: &mut Waits, look: Option<Class>) -> Result<bool, NoMemory>
+    ensures { IfOk result (λ done. Unfolds (symbols_of (choose Form.AfterInt look) Form.AfterInt) done waits.old.stack.items waits.new.stack.items) }
 {
     match look {
         Some(Class::Sign) => want(waits, &[Token(Class::Sign), Sub(Form::AfterSignInt)]),
@@ -549,8 +530,8 @@ fn choose_after_int(waits: &mut Vec<Wait>, look: Option<Class>) -> Result<bool, 
     }
 }
 
-fn choose_action(waits: &mut Vec<Wait>, look: Option<Class>) -> Result<bool, NoMemory>
-    ensures { IfOk result (λ done. Unfolds (symbols_of (choose Form.Action look) Form.Action) done waits.old.items waits.new.items) }
+fn choose_action(waits: &mut Waits, look: Option<Class>) -> Result<bool, NoMemory>
+    ensures { IfOk result (λ done. Unfolds (symbols_of (choose Form.Action look) Form.Action) done waits.old.stack.items waits.new.stack.items) }
 {
     match look {
         Some(Class::Increment) => want(waits, &[Token(Class::Increment), Sub(Form::Target)]),
@@ -562,8 +543,8 @@ fn choose_action(waits: &mut Vec<Wait>, look: Option<Class>) -> Result<bool, NoM
     }
 }
 
-fn choose_more_params(waits: &mut Vec<Wait>, look: Option<Class>) -> Result<bool, NoMemory>
-    ensures { IfOk result (λ done. Unfolds (symbols_of (choose Form.MoreParams look) Form.MoreParams) done waits.old.items waits.new.items) }
+fn choose_more_params(waits: &mut Waits, look: Option<Class>) -> Result<bool, NoMemory>
+    ensures { IfOk result (λ done. Unfolds (symbols_of (choose Form.MoreParams look) Form.MoreParams) done waits.old.stack.items waits.new.stack.items) }
 {
     match look {
         Some(Class::Comma) => want(
@@ -574,8 +555,8 @@ fn choose_more_params(waits: &mut Vec<Wait>, look: Option<Class>) -> Result<bool
     }
 }
 
-fn choose_more_declarators(waits: &mut Vec<Wait>, look: Option<Class>) -> Result<bool, NoMemory>
-    ensures { IfOk result (λ done. Unfolds (symbols_of (choose Form.MoreDeclarators look) Form.MoreDeclarators) done waits.old.items waits.new.items) }
+fn choose_more_declarators(waits: &mut Waits, look: Option<Class>) -> Result<bool, NoMemory>
+    ensures { IfOk result (λ done. Unfolds (symbols_of (choose Form.MoreDeclarators look) Form.MoreDeclarators) done waits.old.stack.items waits.new.stack.items) }
 {
     match look {
         Some(Class::Comma) => want(
@@ -590,8 +571,8 @@ fn choose_more_declarators(waits: &mut Vec<Wait>, look: Option<Class>) -> Result
     }
 }
 
-fn choose_more_values(waits: &mut Vec<Wait>, look: Option<Class>) -> Result<bool, NoMemory>
-    ensures { IfOk result (λ done. Unfolds (symbols_of (choose Form.MoreValues look) Form.MoreValues) done waits.old.items waits.new.items) }
+fn choose_more_values(waits: &mut Waits, look: Option<Class>) -> Result<bool, NoMemory>
+    ensures { IfOk result (λ done. Unfolds (symbols_of (choose Form.MoreValues look) Form.MoreValues) done waits.old.stack.items waits.new.stack.items) }
 {
     match look {
         Some(Class::Comma) => want(waits, &[Token(Class::Comma), Sub(Form::NextValue)]),
@@ -599,8 +580,8 @@ fn choose_more_values(waits: &mut Vec<Wait>, look: Option<Class>) -> Result<bool
     }
 }
 
-fn choose_more_arguments(waits: &mut Vec<Wait>, look: Option<Class>) -> Result<bool, NoMemory>
-    ensures { IfOk result (λ done. Unfolds (symbols_of (choose Form.MoreArguments look) Form.MoreArguments) done waits.old.items waits.new.items) }
+fn choose_more_arguments(waits: &mut Waits, look: Option<Class>) -> Result<bool, NoMemory>
+    ensures { IfOk result (λ done. Unfolds (symbols_of (choose Form.MoreArguments look) Form.MoreArguments) done waits.old.stack.items waits.new.stack.items) }
 {
     match look {
         Some(Class::Comma) => want(
@@ -615,8 +596,8 @@ fn choose_more_arguments(waits: &mut Vec<Wait>, look: Option<Class>) -> Result<b
     }
 }
 
-fn choose_param_name(waits: &mut Vec<Wait>, look: Option<Class>) -> Result<bool, NoMemory>
-    ensures { IfOk result (λ done. Unfolds (symbols_of (choose Form.ParamName look) Form.ParamName) done waits.old.items waits.new.items) }
+fn choose_param_name(waits: &mut Waits, look: Option<Class>) -> Result<bool, NoMemory>
+    ensures { IfOk result (λ done. Unfolds (symbols_of (choose Form.ParamName look) Form.ParamName) done waits.old.stack.items waits.new.stack.items) }
 {
     match look {
         Some(Class::Name) => want(waits, &[Token(Class::Name)]),
@@ -624,8 +605,8 @@ fn choose_param_name(waits: &mut Vec<Wait>, look: Option<Class>) -> Result<bool,
     }
 }
 
-fn choose_list_initial(waits: &mut Vec<Wait>, look: Option<Class>) -> Result<bool, NoMemory>
-    ensures { IfOk result (λ done. Unfolds (symbols_of (choose Form.ListInitial look) Form.ListInitial) done waits.old.items waits.new.items) }
+fn choose_list_initial(waits: &mut Waits, look: Option<Class>) -> Result<bool, NoMemory>
+    ensures { IfOk result (λ done. Unfolds (symbols_of (choose Form.ListInitial look) Form.ListInitial) done waits.old.stack.items waits.new.stack.items) }
 {
     match look {
         Some(Class::Equals) => want(
@@ -642,41 +623,26 @@ fn choose_list_initial(waits: &mut Vec<Wait>, look: Option<Class>) -> Result<boo
     }
 }
 
-fn choose_subscript(waits: &mut Vec<Wait>, look: Option<Class>) -> Result<bool, NoMemory>
-    ensures { IfOk result (λ done. Unfolds (symbols_of (choose Form.Subscript look) Form.Subscript) done waits.old.items waits.new.items) }
+fn choose_subscript(waits: &mut Waits, look: Option<Class>) -> Result<bool, NoMemory>
+    ensures { IfOk result (λ done. Unfolds (symbols_of (choose Form.Subscript look) Form.Subscript) done waits.old.stack.items waits.new.stack.items) }
 {
     match look {
-        Some(Class::OpenIndex) => want(
-            waits,
-            &[
-                Token(Class::OpenIndex),
-                Sub(Form::Expr),
-                Token(Class::CloseIndex),
-            ],
-        ),
+        Some(Class::OpenIndex) => want(waits, &[Token(Class::OpenIndex), Sub(Form::Subscripted)]),
         _ => Ok(true),
     }
 }
 
-fn choose_choice(waits: &mut Vec<Wait>, look: Option<Class>) -> Result<bool, NoMemory>
-    ensures { IfOk result (λ done. Unfolds (symbols_of (choose Form.Choice look) Form.Choice) done waits.old.items waits.new.items) }
+fn choose_choice(waits: &mut Waits, look: Option<Class>) -> Result<bool, NoMemory>
+    ensures { IfOk result (λ done. Unfolds (symbols_of (choose Form.Choice look) Form.Choice) done waits.old.stack.items waits.new.stack.items) }
 {
     match look {
-        Some(Class::Question) => want(
-            waits,
-            &[
-                Token(Class::Question),
-                Sub(Form::Expr),
-                Token(Class::Colon),
-                Sub(Form::Expr),
-            ],
-        ),
+        Some(Class::Question) => want(waits, &[Token(Class::Question), Sub(Form::Chosen)]),
         _ => Ok(true),
     }
 }
 
-fn choose_after_char(waits: &mut Vec<Wait>, look: Option<Class>) -> Result<bool, NoMemory>
-    ensures { IfOk result (λ done. Unfolds (symbols_of (choose Form.AfterChar look) Form.AfterChar) done waits.old.items waits.new.items) }
+fn choose_after_char(waits: &mut Waits, look: Option<Class>) -> Result<bool, NoMemory>
+    ensures { IfOk result (λ done. Unfolds (symbols_of (choose Form.AfterChar look) Form.AfterChar) done waits.old.stack.items waits.new.stack.items) }
 {
     match look {
         Some(Class::Sign) => want(waits, &[Token(Class::Sign)]),
@@ -684,8 +650,8 @@ fn choose_after_char(waits: &mut Vec<Wait>, look: Option<Class>) -> Result<bool,
     }
 }
 
-fn choose_after_short_int(waits: &mut Vec<Wait>, look: Option<Class>) -> Result<bool, NoMemory>
-    ensures { IfOk result (λ done. Unfolds (symbols_of (choose Form.AfterShortInt look) Form.AfterShortInt) done waits.old.items waits.new.items) }
+fn choose_after_short_int(waits: &mut Waits, look: Option<Class>) -> Result<bool, NoMemory>
+    ensures { IfOk result (λ done. Unfolds (symbols_of (choose Form.AfterShortInt look) Form.AfterShortInt) done waits.old.stack.items waits.new.stack.items) }
 {
     match look {
         Some(Class::Sign) => want(waits, &[Token(Class::Sign)]),
@@ -693,8 +659,8 @@ fn choose_after_short_int(waits: &mut Vec<Wait>, look: Option<Class>) -> Result<
     }
 }
 
-fn choose_after_sign_short(waits: &mut Vec<Wait>, look: Option<Class>) -> Result<bool, NoMemory>
-    ensures { IfOk result (λ done. Unfolds (symbols_of (choose Form.AfterSignShort look) Form.AfterSignShort) done waits.old.items waits.new.items) }
+fn choose_after_sign_short(waits: &mut Waits, look: Option<Class>) -> Result<bool, NoMemory>
+    ensures { IfOk result (λ done. Unfolds (symbols_of (choose Form.AfterSignShort look) Form.AfterSignShort) done waits.old.stack.items waits.new.stack.items) }
 {
     match look {
         Some(Class::Int) => want(waits, &[Token(Class::Int)]),
@@ -702,8 +668,8 @@ fn choose_after_sign_short(waits: &mut Vec<Wait>, look: Option<Class>) -> Result
     }
 }
 
-fn choose_after_sign_int(waits: &mut Vec<Wait>, look: Option<Class>) -> Result<bool, NoMemory>
-    ensures { IfOk result (λ done. Unfolds (symbols_of (choose Form.AfterSignInt look) Form.AfterSignInt) done waits.old.items waits.new.items) }
+fn choose_after_sign_int(waits: &mut Waits, look: Option<Class>) -> Result<bool, NoMemory>
+    ensures { IfOk result (λ done. Unfolds (symbols_of (choose Form.AfterSignInt look) Form.AfterSignInt) done waits.old.stack.items waits.new.stack.items) }
 {
     match look {
         Some(Class::Short) => want(waits, &[Token(Class::Short)]),
@@ -712,11 +678,11 @@ fn choose_after_sign_int(waits: &mut Vec<Wait>, look: Option<Class>) -> Result<b
 }
 
 fn choose_else_part(
-    waits: &mut Vec<Wait>,
+    waits: &mut Waits,
     within: Within,
     look: Option<Class>,
 ) -> Result<bool, NoMemory>
-    ensures { IfOk result (λ done. Unfolds (symbols_of (choose (Form.ElsePart within) look) (Form.ElsePart within)) done waits.old.items waits.new.items) }
+    ensures { IfOk result (λ done. Unfolds (symbols_of (choose (Form.ElsePart within) look) (Form.ElsePart within)) done waits.old.stack.items waits.new.stack.items) }
 {
     match look {
         Some(Class::Else) => want(waits, &[Token(Class::Else), Sub(Form::Statement(within))]),
@@ -724,8 +690,8 @@ fn choose_else_part(
     }
 }
 
-fn choose_next_value(waits: &mut Vec<Wait>, look: Option<Class>) -> Result<bool, NoMemory>
-    ensures { IfOk result (λ done. Unfolds (symbols_of (choose Form.NextValue look) Form.NextValue) done waits.old.items waits.new.items) }
+fn choose_next_value(waits: &mut Waits, look: Option<Class>) -> Result<bool, NoMemory>
+    ensures { IfOk result (λ done. Unfolds (symbols_of (choose Form.NextValue look) Form.NextValue) done waits.old.stack.items waits.new.stack.items) }
 {
     match look {
         Some(Class::CloseBrace) => Ok(true),
@@ -733,8 +699,8 @@ fn choose_next_value(waits: &mut Vec<Wait>, look: Option<Class>) -> Result<bool,
     }
 }
 
-fn choose_returned(waits: &mut Vec<Wait>, look: Option<Class>) -> Result<bool, NoMemory>
-    ensures { IfOk result (λ done. Unfolds (symbols_of (choose Form.Returned look) Form.Returned) done waits.old.items waits.new.items) }
+fn choose_returned(waits: &mut Waits, look: Option<Class>) -> Result<bool, NoMemory>
+    ensures { IfOk result (λ done. Unfolds (symbols_of (choose Form.Returned look) Form.Returned) done waits.old.stack.items waits.new.stack.items) }
 {
     match look {
         Some(Class::Semicolon) => Ok(true),
@@ -742,8 +708,8 @@ fn choose_returned(waits: &mut Vec<Wait>, look: Option<Class>) -> Result<bool, N
     }
 }
 
-fn choose_tested(waits: &mut Vec<Wait>, look: Option<Class>) -> Result<bool, NoMemory>
-    ensures { IfOk result (λ done. Unfolds (symbols_of (choose Form.Tested look) Form.Tested) done waits.old.items waits.new.items) }
+fn choose_tested(waits: &mut Waits, look: Option<Class>) -> Result<bool, NoMemory>
+    ensures { IfOk result (λ done. Unfolds (symbols_of (choose Form.Tested look) Form.Tested) done waits.old.stack.items waits.new.stack.items) }
 {
     match look {
         Some(Class::Semicolon) => Ok(true),
@@ -751,8 +717,8 @@ fn choose_tested(waits: &mut Vec<Wait>, look: Option<Class>) -> Result<bool, NoM
     }
 }
 
-fn choose_stepped(waits: &mut Vec<Wait>, look: Option<Class>) -> Result<bool, NoMemory>
-    ensures { IfOk result (λ done. Unfolds (symbols_of (choose Form.Stepped look) Form.Stepped) done waits.old.items waits.new.items) }
+fn choose_stepped(waits: &mut Waits, look: Option<Class>) -> Result<bool, NoMemory>
+    ensures { IfOk result (λ done. Unfolds (symbols_of (choose Form.Stepped look) Form.Stepped) done waits.old.stack.items waits.new.stack.items) }
 {
     match look {
         Some(Class::Close) => Ok(true),
@@ -760,8 +726,8 @@ fn choose_stepped(waits: &mut Vec<Wait>, look: Option<Class>) -> Result<bool, No
     }
 }
 
-fn choose_arguments(waits: &mut Vec<Wait>, look: Option<Class>) -> Result<bool, NoMemory>
-    ensures { IfOk result (λ done. Unfolds (symbols_of (choose Form.Arguments look) Form.Arguments) done waits.old.items waits.new.items) }
+fn choose_arguments(waits: &mut Waits, look: Option<Class>) -> Result<bool, NoMemory>
+    ensures { IfOk result (λ done. Unfolds (symbols_of (choose Form.Arguments look) Form.Arguments) done waits.old.stack.items waits.new.stack.items) }
 {
     match look {
         Some(Class::Close) => Ok(true),
@@ -769,8 +735,8 @@ fn choose_arguments(waits: &mut Vec<Wait>, look: Option<Class>) -> Result<bool, 
     }
 }
 
-fn choose_externals(waits: &mut Vec<Wait>, look: Option<Class>) -> Result<bool, NoMemory>
-    ensures { IfOk result (λ done. Unfolds (symbols_of (choose Form.Externals look) Form.Externals) done waits.old.items waits.new.items) }
+fn choose_externals(waits: &mut Waits, look: Option<Class>) -> Result<bool, NoMemory>
+    ensures { IfOk result (λ done. Unfolds (symbols_of (choose Form.Externals look) Form.Externals) done waits.old.stack.items waits.new.stack.items) }
 {
     match look {
         None => Ok(true),
@@ -778,8 +744,8 @@ fn choose_externals(waits: &mut Vec<Wait>, look: Option<Class>) -> Result<bool, 
     }
 }
 
-fn choose_external(waits: &mut Vec<Wait>, look: Option<Class>) -> Result<bool, NoMemory>
-    ensures { IfOk result (λ done. Unfolds (symbols_of (choose Form.External look) Form.External) done waits.old.items waits.new.items) }
+fn choose_external(waits: &mut Waits, look: Option<Class>) -> Result<bool, NoMemory>
+    ensures { IfOk result (λ done. Unfolds (symbols_of (choose Form.External look) Form.External) done waits.old.stack.items waits.new.stack.items) }
 {
     match look {
         Some(Class::Static) => want(waits, &[Token(Class::Static), Sub(Form::Unstatic)]),
@@ -787,8 +753,8 @@ fn choose_external(waits: &mut Vec<Wait>, look: Option<Class>) -> Result<bool, N
     }
 }
 
-fn choose_titled(waits: &mut Vec<Wait>, look: Option<Class>) -> Result<bool, NoMemory>
-    ensures { IfOk result (λ done. Unfolds (symbols_of (choose Form.Titled look) Form.Titled) done waits.old.items waits.new.items) }
+fn choose_titled(waits: &mut Waits, look: Option<Class>) -> Result<bool, NoMemory>
+    ensures { IfOk result (λ done. Unfolds (symbols_of (choose Form.Titled look) Form.Titled) done waits.old.stack.items waits.new.stack.items) }
 {
     match look {
         Some(Class::Name) => Ok(false),
@@ -796,8 +762,8 @@ fn choose_titled(waits: &mut Vec<Wait>, look: Option<Class>) -> Result<bool, NoM
     }
 }
 
-fn choose_item(waits: &mut Vec<Wait>, within: Within, look: Option<Class>) -> Result<bool, NoMemory>
-    ensures { IfOk result (λ done. Unfolds (symbols_of (choose (Form.Item within) look) (Form.Item within)) done waits.old.items waits.new.items) }
+fn choose_item(waits: &mut Waits, within: Within, look: Option<Class>) -> Result<bool, NoMemory>
+    ensures { IfOk result (λ done. Unfolds (symbols_of (choose (Form.Item within) look) (Form.Item within)) done waits.old.stack.items waits.new.stack.items) }
 {
     if begins_declaration(look) {
         want(waits, &[Sub(Form::Declaration)])
@@ -808,8 +774,8 @@ fn choose_item(waits: &mut Vec<Wait>, within: Within, look: Option<Class>) -> Re
     }
 }
 
-fn choose_expr(waits: &mut Vec<Wait>, look: Option<Class>) -> Result<bool, NoMemory>
-    ensures { IfOk result (λ done. Unfolds (symbols_of (choose Form.Expr look) Form.Expr) done waits.old.items waits.new.items) }
+fn choose_expr(waits: &mut Waits, look: Option<Class>) -> Result<bool, NoMemory>
+    ensures { IfOk result (λ done. Unfolds (symbols_of (choose Form.Expr look) Form.Expr) done waits.old.stack.items waits.new.stack.items) }
 {
     if begins_unary(look) {
         want(waits, &[Sub(Form::Binary), Sub(Form::Choice)])
@@ -818,13 +784,23 @@ fn choose_expr(waits: &mut Vec<Wait>, look: Option<Class>) -> Result<bool, NoMem
     }
 }
 
+fn choose_operand(waits: &mut Waits, look: Option<Class>) -> Result<bool, NoMemory>
+    ensures { IfOk result (λ done. Unfolds (symbols_of (choose Form.Operand look) Form.Operand) done waits.old.stack.items waits.new.stack.items) }
+{
+    if begins_unary(look) {
+        want(waits, &[Sub(Form::Unary)])
+    } else {
+        Ok(false)
+    }
+}
+
 fn choose_groups(
-    waits: &mut Vec<Wait>,
+    waits: &mut Waits,
     within: Within,
     ended: bool,
     look: Option<Class>,
 ) -> Result<bool, NoMemory>
-    ensures { IfOk result (λ done. Unfolds (symbols_of (choose (Form.Groups within ended) look) (Form.Groups within ended)) done waits.old.items waits.new.items) }
+    ensures { IfOk result (λ done. Unfolds (symbols_of (choose (Form.Groups within ended) look) (Form.Groups within ended)) done waits.old.stack.items waits.new.stack.items) }
 {
     match (ended, look) {
         (true, Some(Class::Case)) => Ok(false),
@@ -835,8 +811,8 @@ fn choose_groups(
 
 /// The alternative of a form is waited for that the next token tells; false where there is none,
 /// where it is told later, and where a part is judged.
-pub fn choose(waits: &mut Vec<Wait>, form: Form, look: Option<Class>) -> Result<bool, NoMemory>
-    ensures { IfOk result (λ done. Unfolds (symbols_of (choose form look) form) done waits.old.items waits.new.items) }
+pub fn choose(waits: &mut Waits, form: Form, look: Option<Class>) -> Result<bool, NoMemory>
+    ensures { IfOk result (λ done. Unfolds (symbols_of (choose form look) form) done waits.old.stack.items waits.new.stack.items) }
 {
     match form {
         Form::Program => want(waits, &[Sub(Form::Externals)]),
@@ -882,13 +858,22 @@ pub fn choose(waits: &mut Vec<Wait>, form: Form, look: Option<Class>) -> Result<
         Form::Action => choose_action(waits, look),
         Form::Target => want(waits, &[Token(Class::Name), Sub(Form::Subscript)]),
         Form::Subscript => choose_subscript(waits, look),
+        Form::Subscripted => want(waits, &[Sub(Form::Expr), Token(Class::CloseIndex)]),
         Form::Assign => choose_assign(waits, look),
         Form::Expr => choose_expr(waits, look),
         Form::Choice => choose_choice(waits, look),
+        Form::Chosen => want(
+            waits,
+            &[Sub(Form::Expr), Token(Class::Colon), Sub(Form::Expr)],
+        ),
         Form::Binary => want(waits, &[Sub(Form::Unary), Sub(Form::Operations)]),
         Form::Operations => choose_operations(waits, look),
         Form::Unary => choose_unary(waits, look),
+        Form::Operand => choose_operand(waits, look),
+        Form::CastType => want(waits, &[Sub(Form::TypeName), Token(Class::Close)]),
         Form::Primary => choose_primary(waits, look),
+        Form::Grouped => want(waits, &[Sub(Form::Expr), Token(Class::Close)]),
+        Form::Passed => want(waits, &[Sub(Form::Arguments), Token(Class::Close)]),
         Form::Arguments => choose_arguments(waits, look),
         Form::MoreArguments => choose_more_arguments(waits, look),
         Form::TypeName => choose_type_name(waits, look),

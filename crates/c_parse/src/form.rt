@@ -54,13 +54,25 @@ pub enum Form {
     Action,
     Target,
     Subscript,
+    /// An index and its ].
+    Subscripted,
     Assign,
     Expr,
     Choice,
+    /// What stands behind a ?.
+    Chosen,
     Binary,
     Operations,
     Unary,
+    /// What a unary operator or a cast is applied to.
+    Operand,
+    /// The type of a cast and its ).
+    CastType,
     Primary,
+    /// An expression in parentheses and its ).
+    Grouped,
+    /// The arguments of a call and their ).
+    Passed,
     Arguments,
     MoreArguments,
     TypeName,

@@ -3,13 +3,27 @@
 
 mod choose;
 mod class;
+mod class_of;
+mod endings;
+mod fault;
 mod form;
+mod grouping;
+#[cfg(test)]
+mod grouping_tests;
 mod laws;
+mod machine;
 mod no_memory;
+mod parsing;
 mod raw;
+#[cfg(test)]
+mod tests;
+mod waits;
+mod words;
 
 pub use class::Class;
+pub use fault::ParseFault;
 pub use form::{Delay, Form, Late, Symbol, Wait, Within};
-pub use laws::one_tree;
+pub use laws::{groups_by_level, one_grouping, one_level, one_tree};
 pub use no_memory::NoMemory;
+pub use parsing::parse;
 pub use raw::{Raw, RawRule};

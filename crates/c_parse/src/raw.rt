@@ -31,7 +31,7 @@ pub enum RawRule {
 pub enum Raw {
     Leaf {
         kind: TokenKind,
-        text: Vec<u8>,
+        text: Items<u8>,
         place: Place,
     },
     Node {
