@@ -3,7 +3,7 @@ use Rattle.std.proofs.Common.{◌≡◌, ◌<◌, ◌⊎◌, List, sym, subst, �
 use Rattle.base_io.specs.Counts.{Rose}
 use Rattle.base_io.specs.Files.{Files}
 use Rattle.commands.specs.Words.{Text}
-use Rattle.commands.specs.Answers.{Answer, done, read_fault, write_fault, no_memory, board_refused, too_large, not_built, needs_checkpoint}
+use Rattle.commands.specs.Answers.{Answer, done, usage, read_fault, write_fault, no_memory, board_refused, too_large, not_built, needs_checkpoint}
 use Rattle.commands.specs.Causes.{HasCause, output}
 use Rattle.commands.specs.Left.{LeavesTold}
 use Rattle.commands.specs.Faults.{IsComplete, IsDecided, IsReadFaultOrFree, IsWriteFault, ReadFaultIs, TooLargeIs, WordsAre, WriteFaultIs}
@@ -95,6 +95,7 @@ module _ (words : List Text) (old new : Seen) (sunk now : Sunk) (a : Answer) (r 
   free_or_decided (write_fault name) is read still kept = absurd (kept (came_wrote words old new r.came r.line r.comes name is))
   free_or_decided no_memory is read still kept = inl refl
   free_or_decided done is read still kept = inr tt
+  free_or_decided usage is read still kept = inr tt
   free_or_decided (board_refused kind key) is read still kept = inr tt
   free_or_decided (too_large name seen) is read still kept = inr tt
   free_or_decided (not_built what) is read still kept = inr tt

@@ -10,8 +10,8 @@ use Rattle.commands.specs.Headline.{IsKept, IsKeptTold}
 
 module _ (agree : StraightImagesAgree) (endure : StraightImagesEndure) (images : AreStraightImages) (held : AreStraightHeld) (words : List Text) where
   kept : (old new : Files) → AskedAndBuilt words old new → IsKept words old new
-  kept old new (paths, e, b) = record {
-    paths = paths;
+  kept old new (job, e, b) = record {
+    job = job;
     asks = e;
     text = b.text;
     program_file = b.read.program.there;

@@ -1,17 +1,24 @@
 -- Words and files decide one answer at most.
 use Rattle.std.proofs.Common.{◌≡◌, ◌<◌, ◌≤◌, ℕ, List, Option, Some, None, sym, subst, ap, ap₂, ◌∙◌, refl, inl, inr, arith}
-use Rattle.std.specs.Prelude.{length, ◌+◌, IsSomeAnd}
+use Rattle.std.specs.Prelude.{length, ◌+◌, ◌++◌, ◌∷◌, IsSomeAnd, unwrap_or}
 use Rattle.base_io.specs.Files.{Files}
 use Rattle.board_table.specs.Faults.{Fault, not_toml, missing, out_of_range, extra}
-use Rattle.board_table.specs.File.{IsBoardOf, IsRefused as IsRefusedBoard}
+use Rattle.board_table.specs.File.{IsRefused as IsRefusedBoard}
 use Rattle.board_table.proofs.Exact.{one_board, board_or_fault, one_fault}
+use Rattle.board_table.proofs.SameBoard.{board_same}
+use Rattle.board_table.specs.Reading.{access_numbers, core_numbers}
+use Rattle.board_table.specs.declared.board.Access.{Access}
 use Rattle.board_table.specs.declared.board.Board.{Board}
+use Rattle.board_table.specs.declared.board.Core.{Core}
 use Rattle.emit_layout.specs.Straight.{straight_need}
 use Rattle.straight_programs.specs.Text.{IsNoProgram, IsProgram}
 use Rattle.straight_programs.proofs.Spelling.{one_list}
 use Rattle.straight_programs.specs.declared.program.Statement.{Statement}
-use Rattle.commands.specs.Words.{Text, Paths, asked}
-use Rattle.commands.specs.Answers.{Answer, done, read_fault, write_fault, no_memory, board_refused, too_large, not_built, needs_checkpoint}
+use Rattle.job_parts.specs.Asked.{asked}
+use Rattle.commands.specs.Words.{Text, Build, AskBuild, AskUnbuilt}
+use Rattle.commands.specs.Budget.{IsBoardWith}
+use Rattle.commands.proofs.Clauses.{asks_once, one_build, some_none}
+use Rattle.commands.specs.Answers.{Answer, done, usage, read_fault, write_fault, no_memory, board_refused, too_large, not_built, needs_checkpoint}
 use Rattle.commands.specs.Causes.{AreRead, AreRefused, AsksFor, Causes, HasCause, IsFine, IsNoBoard, IsReached, IsRead, IsRefused, IsTooDear, most_bytes}
 use Rattle.commands.specs.Faults.{IsDecided}
 use Rattle.commands.specs.Laws.{DecideOne}
@@ -21,9 +28,6 @@ use Rattle.commands.specs.declared.status.Unbuilt.TheVariants.{Words, Program}
 
 some_same : {A : Type 0} (x y : A) → (let s : Option A = Some x in s ≡ Some y) → x ≡ y
 some_same x y e = cc
-
-none_some : {A : Type 0} (x : A) → (let none : Option A = None in none ≡ Some x) → ⊥
-none_some x e = cc
 
 -- ---- Boards
 
@@ -85,63 +89,82 @@ refusal_same bytes refusal.Extra refusal.Missing k l h g e = absurd (missing_ext
 refusal_same bytes refusal.Extra refusal.OutOfRange k l h g e = absurd (out_extra l k (sym e))
 refusal_same bytes refusal.Extra refusal.Extra k l h g e = ap (λ x. board_refused refusal.Extra x) (extra_same k l e)
 
+abbrev BoardValues : Type 0
+BoardValues = ℕ × Core × Access
+
+same_board : (b c : Board) → b.budget ≡ c.budget → b.core ≡ c.core → b.access ≡ c.access → b ≡ c
+same_board b c budget core access =
+    let values : BoardValues = (b.budget, b.core, b.access) in
+    let others : BoardValues = (c.budget, c.core, c.access) in
+    let same : values ≡ others = cc in
+    board_same b c (ap (λ (v : BoardValues). v.0 ∷ core_numbers v.1 ++ access_numbers v.2) same)
+
+-- a file and the budget that is wanted give one board
+one_board_with : (wanted : Option ℕ) (bytes : Text) (b c : Board) → IsBoardWith wanted bytes b → IsBoardWith wanted bytes c → b ≡ c
+one_board_with wanted bytes b c h k =
+    let own = one_board bytes h.own k.own h.is_board k.is_board in
+    same_board b c
+    (h.budget ∙ ap (λ (x : Board). unwrap_or wanted x.budget) own ∙ sym k.budget)
+    (h.core ∙ ap (λ (x : Board). x.core) own ∙ sym k.core)
+    (h.access ∙ ap (λ (x : Board). x.access) own ∙ sym k.access)
+
 -- ---- Two texts come to one answer
 
 -- what two texts come to
-data Verdict (text bytes : Text) : Answer → Type 0 where
-  none : IsNoProgram text → Verdict text bytes (not_built Program)
-  board : (statements : List Statement) (kind : BoardRefusal) (key : Text) → IsProgram text statements → IsNoBoard bytes kind key → Verdict text bytes (board_refused kind key)
-  dear : (need budget : ℕ) → IsTooDear text bytes need budget → Verdict text bytes (needs_checkpoint need budget)
-  fine : (statements : List Statement) (b : Board) → IsFine text bytes statements b → Verdict text bytes done
+data Verdict (wanted : Option ℕ) (text bytes : Text) : Answer → Type 0 where
+  none : IsNoProgram text → Verdict wanted text bytes (not_built Program)
+  board : (statements : List Statement) (kind : BoardRefusal) (key : Text) → IsProgram text statements → IsNoBoard bytes kind key → Verdict wanted text bytes (board_refused kind key)
+  dear : (need budget : ℕ) → IsTooDear wanted text bytes need budget → Verdict wanted text bytes (needs_checkpoint need budget)
+  fine : (statements : List Statement) (b : Board) → IsFine wanted text bytes statements b → Verdict wanted text bytes done
 
-module _ (text bytes : Text) where
-  no_program_verdict : IsNoProgram text → (a : Answer) → Verdict text bytes a → not_built Program ≡ a
+module _ (wanted : Option ℕ) (text bytes : Text) where
+  no_program_verdict : IsNoProgram text → (a : Answer) → Verdict wanted text bytes a → not_built Program ≡ a
   no_program_verdict never _ (none h) = refl
   no_program_verdict never _ (board statements kind key p h) = absurd (never statements p)
   no_program_verdict never _ (dear need budget h) = absurd (never h.statements h.program)
   no_program_verdict never _ (fine statements b h) = absurd (never statements h.program)
 
-  board_verdict : (statements : List Statement) (kind : BoardRefusal) (key : Text) → IsProgram text statements → IsNoBoard bytes kind key → (a : Answer) → Verdict text bytes a → board_refused kind key ≡ a
+  board_verdict : (statements : List Statement) (kind : BoardRefusal) (key : Text) → IsProgram text statements → IsNoBoard bytes kind key → (a : Answer) → Verdict wanted text bytes a → board_refused kind key ≡ a
   board_verdict statements kind key p h _ (none k) = absurd (k statements p)
   board_verdict statements kind key p h _ (board others also keys q k) =
       refusal_same bytes kind also key keys h k (one_fault bytes (named kind key) (named also keys) (refused_as bytes kind key h) (refused_as bytes also keys k))
-  board_verdict statements kind key p h _ (dear need budget k) = absurd (board_or_fault bytes k.board (named kind key) k.board_file (refused_as bytes kind key h))
-  board_verdict statements kind key p h _ (fine others b k) = absurd (board_or_fault bytes b (named kind key) k.board_file (refused_as bytes kind key h))
+  board_verdict statements kind key p h _ (dear need budget k) = absurd (board_or_fault bytes k.board_file.own (named kind key) k.board_file.is_board (refused_as bytes kind key h))
+  board_verdict statements kind key p h _ (fine others b k) = absurd (board_or_fault bytes k.board_file.own (named kind key) k.board_file.is_board (refused_as bytes kind key h))
 
   -- what a program and a board need is one number
-  needs_same : (xs ys : List Statement) (b c : Board) → IsProgram text xs → IsProgram text ys → IsBoardOf bytes b → IsBoardOf bytes c → straight_need b xs ≡ straight_need c ys
-  needs_same xs ys b c p q h k = ap₂ straight_need (one_board bytes b c h k) (one_list text xs ys p q)
+  needs_same : (xs ys : List Statement) (b c : Board) → IsProgram text xs → IsProgram text ys → IsBoardWith wanted bytes b → IsBoardWith wanted bytes c → straight_need b xs ≡ straight_need c ys
+  needs_same xs ys b c p q h k = ap₂ straight_need (one_board_with wanted bytes b c h k) (one_list text xs ys p q)
 
-  dear_verdict : (need budget : ℕ) → IsTooDear text bytes need budget → (a : Answer) → Verdict text bytes a → needs_checkpoint need budget ≡ a
+  dear_verdict : (need budget : ℕ) → IsTooDear wanted text bytes need budget → (a : Answer) → Verdict wanted text bytes a → needs_checkpoint need budget ≡ a
   dear_verdict need budget h _ (none k) = absurd (k h.statements h.program)
-  dear_verdict need budget h _ (board statements kind key p k) = absurd (board_or_fault bytes h.board (named kind key) h.board_file (refused_as bytes kind key k))
+  dear_verdict need budget h _ (board statements kind key p k) = absurd (board_or_fault bytes h.board_file.own (named kind key) h.board_file.is_board (refused_as bytes kind key k))
   dear_verdict need budget h _ (dear also budgets k) =
       ap₂ (λ x y. needs_checkpoint x y)
       (h.needs ∙ needs_same h.statements k.statements h.board k.board h.program k.program h.board_file k.board_file ∙ sym k.needs)
-      (h.has ∙ ap (λ (b : Board). b.budget) (one_board bytes h.board k.board h.board_file k.board_file) ∙ sym k.has)
+      (h.has ∙ ap (λ (b : Board). b.budget) (one_board_with wanted bytes h.board k.board h.board_file k.board_file) ∙ sym k.has)
   dear_verdict need budget h _ (fine statements b k) =
       let n = h.needs ∙ needs_same h.statements statements h.board b h.program k.program h.board_file k.board_file in
-      let m = h.has ∙ ap (λ (b : Board). b.budget) (one_board bytes h.board b h.board_file k.board_file) in
+      let m = h.has ∙ ap (λ (b : Board). b.budget) (one_board_with wanted bytes h.board b h.board_file k.board_file) in
       absurd (above need budget (straight_need b statements) b.budget n m h.dear k.fits)
     where
       above : (n m k l : ℕ) → n ≡ k → m ≡ l → m < n → k ≤ l → ⊥
       above n m k l e f lt le = omega arith
 
-one_verdict : (text bytes : Text) (a b : Answer) → Verdict text bytes a → Verdict text bytes b → a ≡ b
-one_verdict text bytes _ b (none h) k = no_program_verdict text bytes h b k
-one_verdict text bytes _ b (board statements kind key p h) k = board_verdict text bytes statements kind key p h b k
-one_verdict text bytes _ b (dear need budget h) k = dear_verdict text bytes need budget h b k
-one_verdict text bytes _ b (fine statements c h) (none k) = absurd (k statements h.program)
-one_verdict text bytes _ b (fine statements c h) (board others kind key p k) = absurd (board_or_fault bytes c (named kind key) h.board_file (refused_as bytes kind key k))
-one_verdict text bytes _ b (fine statements c h) (dear need budget k) = sym (dear_verdict text bytes need budget k done (fine statements c h))
-one_verdict text bytes _ b (fine statements c h) (fine others d k) = refl
+one_verdict : (wanted : Option ℕ) (text bytes : Text) (a b : Answer) → Verdict wanted text bytes a → Verdict wanted text bytes b → a ≡ b
+one_verdict wanted text bytes _ b (none h) k = no_program_verdict wanted text bytes h b k
+one_verdict wanted text bytes _ b (board statements kind key p h) k = board_verdict wanted text bytes statements kind key p h b k
+one_verdict wanted text bytes _ b (dear need budget h) k = dear_verdict wanted text bytes need budget h b k
+one_verdict wanted text bytes _ b (fine statements c h) (none k) = absurd (k statements h.program)
+one_verdict wanted text bytes _ b (fine statements c h) (board others kind key p k) = absurd (board_or_fault bytes h.board_file.own (named kind key) h.board_file.is_board (refused_as bytes kind key k))
+one_verdict wanted text bytes _ b (fine statements c h) (dear need budget k) = sym (dear_verdict wanted text bytes need budget k done (fine statements c h))
+one_verdict wanted text bytes _ b (fine statements c h) (fine others d k) = refl
 
 -- ---- Files come to one answer
 
 -- what the files of a build come to: one that is reached is too large, or both are read and come to a verdict
-data Finding (paths : Paths) (files : Files) : Answer → Type 0 where
-  large : (name text : Text) → IsReached paths files name → files name ≡ Some text → most_bytes < length text → Finding paths files (too_large name (most_bytes + 1))
-  found : (text bytes : Text) (a : Answer) → AreRead paths files text bytes → Verdict text bytes a → Finding paths files a
+data Finding (job : Build) (files : Files) : Answer → Type 0 where
+  large : (name text : Text) → IsReached job files name → files name ≡ Some text → most_bytes < length text → Finding job files (too_large name (most_bytes + 1))
+  found : (text bytes : Text) (a : Answer) → AreRead job files text bytes → Verdict job.budget text bytes a → Finding job files a
 
 too_long : (text read : Text) → (let s : Option Text = Some text in s ≡ Some read) → most_bytes < length text → length read ≤ most_bytes → ⊥
 too_long text read e long short = let l : length text ≡ length read = ap length (some_same text read e) in omega (arith, l, long, short)
@@ -150,47 +173,49 @@ too_long text read e long short = let l : length text ≡ length read = ap lengt
 not_read : (files : Files) (name text read : Text) → files name ≡ Some text → most_bytes < length text → IsRead files name read → ⊥
 not_read files name text read there long h = too_long text read (sym there ∙ h.there) long h.short
 
-module _ (paths : Paths) (files : Files) where
+module _ (job : Build) (files : Files) where
   -- the first file that is too large is one
-  large_same : (m n text other : Text) → IsReached paths files m → files m ≡ Some text → most_bytes < length text
-      → IsReached paths files n → files n ≡ Some other → most_bytes < length other → m ≡ n
+  large_same : (m n text other : Text) → IsReached job files m → files m ≡ Some text → most_bytes < length text
+      → IsReached job files n → files n ≡ Some other → most_bytes < length other → m ≡ n
   large_same m n text other (inl p) there long (inl q) also wide = p ∙ sym q
   large_same m n text other (inr (p, _)) there long (inr (q, _)) also wide = p ∙ sym q
-  large_same m n text other (inl p) there long (inr (q, (read, r))) also wide = absurd (not_read files paths.program text read (subst (λ x. files x ≡ Some text) p there) long r)
-  large_same m n text other (inr (p, (read, r))) there long (inl q) also wide = absurd (not_read files paths.program other read (subst (λ x. files x ≡ Some other) q also) wide r)
+  large_same m n text other (inl p) there long (inr (q, (read, r))) also wide = absurd (not_read files job.program text read (subst (λ x. files x ≡ Some text) p there) long r)
+  large_same m n text other (inr (p, (read, r))) there long (inl q) also wide = absurd (not_read files job.program other read (subst (λ x. files x ≡ Some other) q also) wide r)
 
-  not_both : (name text program bytes : Text) → IsReached paths files name → files name ≡ Some text → most_bytes < length text → AreRead paths files program bytes → ⊥
-  not_both name text program bytes (inl p) there long r = not_read files paths.program text program (subst (λ x. files x ≡ Some text) p there) long r.program
-  not_both name text program bytes (inr (p, _)) there long r = not_read files paths.board text bytes (subst (λ x. files x ≡ Some text) p there) long r.board
+  not_both : (name text program bytes : Text) → IsReached job files name → files name ≡ Some text → most_bytes < length text → AreRead job files program bytes → ⊥
+  not_both name text program bytes (inl p) there long r = not_read files job.program text program (subst (λ x. files x ≡ Some text) p there) long r.program
+  not_both name text program bytes (inr (p, _)) there long r = not_read files job.board text bytes (subst (λ x. files x ≡ Some text) p there) long r.board
 
-  one_finding : (a b : Answer) → Finding paths files a → Finding paths files b → a ≡ b
+  one_finding : (a b : Answer) → Finding job files a → Finding job files b → a ≡ b
   one_finding _ _ (large m text h there long) (large n other k also wide) = ap (λ x. too_large x (most_bytes + 1)) (large_same m n text other h there long k also wide)
   one_finding _ _ (large m text h there long) (found program bytes b r v) = absurd (not_both m text program bytes h there long r)
   one_finding _ _ (found program bytes a r v) (large m text h there long) = absurd (not_both m text program bytes h there long r)
   one_finding _ _ (found p b a r v) (found q c e s w) =
-      one_verdict p b a e v
-      (subst (λ x. Verdict p x e) (some_same c b (sym s.board.there ∙ r.board.there)) (subst (λ x. Verdict x c e) (some_same q p (sym s.program.there ∙ r.program.there)) w))
+      one_verdict job.budget p b a e v
+      (subst (λ x. Verdict job.budget p x e) (some_same c b (sym s.board.there ∙ r.board.there)) (subst (λ x. Verdict job.budget x c e) (some_same q p (sym s.program.there ∙ r.program.there)) w))
 
-  refused_verdict : (text bytes : Text) (a : Answer) → IsDecided a → IsRefused text bytes a → Verdict text bytes a
+  refused_verdict : (text bytes : Text) (a : Answer) → IsDecided a → IsRefused job.budget text bytes a → Verdict job.budget text bytes a
   refused_verdict text bytes (not_built Program) d h = none h
   refused_verdict text bytes (not_built Words) d h = absurd h
   refused_verdict text bytes (board_refused kind key) d h = board h.0.0 kind key h.0.1 h.1
   refused_verdict text bytes (needs_checkpoint need budget) d h = dear need budget h
   refused_verdict text bytes no_memory d h = absurd d
   refused_verdict text bytes done d h = absurd h
+  refused_verdict text bytes usage d h = absurd h
   refused_verdict text bytes (read_fault name) d h = absurd h
   refused_verdict text bytes (write_fault name) d h = absurd h
   refused_verdict text bytes (too_large name seen) d h = absurd h
 
-  refused_finding : (a : Answer) → IsDecided a → AreRefused paths files a → Finding paths files a
+  refused_finding : (a : Answer) → IsDecided a → AreRefused job files a → Finding job files a
   refused_finding a d (text, bytes, r, h) = found text bytes a r (refused_verdict text bytes a d h)
 
-  large_finding : (name : Text) (seen : ℕ) (o : Option Text) → files name ≡ o → IsReached paths files name → IsSomeAnd o (λ text. most_bytes < length text) → seen ≡ most_bytes + 1 → Finding paths files (too_large name seen)
+  large_finding : (name : Text) (seen : ℕ) (o : Option Text) → files name ≡ o → IsReached job files name → IsSomeAnd o (λ text. most_bytes < length text) → seen ≡ most_bytes + 1 → Finding job files (too_large name seen)
   large_finding name seen None e h long is = absurd long
-  large_finding name seen (Some text) e h long is = subst (λ x. Finding paths files (too_large name x)) (sym is) (large name text h e long)
+  large_finding name seen (Some text) e h long is = subst (λ x. Finding job files (too_large name x)) (sym is) (large name text h e long)
 
-  finding : (a : Answer) → IsDecided a → Causes paths files a → Finding paths files a
+  finding : (a : Answer) → IsDecided a → Causes job files a → Finding job files a
   finding done d (text, bytes, statements, b, r, h) = found text bytes done r (fine statements b h)
+  finding usage d h = absurd h
   finding (read_fault name) d h = absurd d
   finding (write_fault name) d h = absurd d
   finding no_memory d h = absurd d
@@ -203,15 +228,17 @@ module _ (paths : Paths) (files : Files) where
 -- ---- Words and files
 
 data Decision (words : List Text) (files : Files) : Answer → Type 0 where
-  unread : asked words ≡ None → Decision words files (not_built Words)
-  asked_for : (paths : Paths) (a : Answer) → asked words ≡ Some paths → Finding paths files a → Decision words files a
+  unread : asked words ≡ None → Decision words files usage
+  unbuilt : AskUnbuilt words → Decision words files (not_built Words)
+  asked_for : (job : Build) (a : Answer) → AskBuild words job → Finding job files a → Decision words files a
 
 module _ (words : List Text) (files : Files) where
   asks : (a : Answer) → IsDecided a → AsksFor words files a → Decision words files a
-  asks a d (paths, e, h) = asked_for paths a e (finding paths files a d h)
+  asks a d (job, e, h) = asked_for job a e (finding job files a d h)
 
   decision : (a : Answer) → IsDecided a → HasCause words files a → Decision words files a
-  decision (not_built Words) d h = unread h
+  decision usage d h = unread h
+  decision (not_built Words) d h = unbuilt h
   decision (not_built Program) d h = asks (not_built Program) d h
   decision no_memory d h = absurd d
   decision (write_fault name) d h = absurd d
@@ -223,10 +250,15 @@ module _ (words : List Text) (files : Files) where
 
   one_decision : (a b : Answer) → Decision words files a → Decision words files b → a ≡ b
   one_decision _ _ (unread e) (unread f) = refl
-  one_decision _ _ (unread e) (asked_for paths b f k) = absurd (none_some paths (sym e ∙ f))
-  one_decision _ _ (asked_for paths a e h) (unread f) = absurd (none_some paths (sym f ∙ e))
-  one_decision _ _ (asked_for paths a e h) (asked_for also b f k) =
-      one_finding paths files a b h (subst (λ p. Finding p files b) (some_same also paths (sym f ∙ e)) k)
+  one_decision _ _ (unread e) (unbuilt f) = absurd (some_none (asked words) f.request f.asks e)
+  one_decision _ _ (unread e) (asked_for job b f k) = absurd (asks_once words job f (inl e))
+  one_decision _ _ (unbuilt e) (unread f) = absurd (some_none (asked words) e.request e.asks f)
+  one_decision _ _ (unbuilt e) (unbuilt f) = refl
+  one_decision _ _ (unbuilt e) (asked_for job b f k) = absurd (asks_once words job f (inr e))
+  one_decision _ _ (asked_for job a e h) (unread f) = absurd (asks_once words job e (inl f))
+  one_decision _ _ (asked_for job a e h) (unbuilt f) = absurd (asks_once words job e (inr f))
+  one_decision _ _ (asked_for job a e h) (asked_for also b f k) =
+      one_finding job files a b h (subst (λ p. Finding p files b) (one_build words also job f e) k)
 
 pub decide_one : DecideOne
 decide_one words files a b d e h k = one_decision words files a b (decision words files a d h) (decision words files b e k)

@@ -4,25 +4,25 @@ use Rattle.std.specs.Prelude.{string_bytes}
 use Rattle.base_io.specs.declared.memory.Memory.{Memory}
 use Rattle.base_io.specs.Counts.{Rose}
 use Rattle.base_io.specs.Files.{Files, Writes, WritesTold}
-use Rattle.commands.specs.Words.{Text, Paths}
-use Rattle.commands.specs.Answers.{Answer, answer_of, built_line, done, read_fault, write_fault, no_memory, board_refused, too_large, not_built, needs_checkpoint}
+use Rattle.commands.specs.Words.{Text, Build}
+use Rattle.commands.specs.Answers.{Answer, answer_of, built_line, done, usage, read_fault, write_fault, no_memory, board_refused, too_large, not_built, needs_checkpoint}
 use Rattle.commands.specs.Causes.{AreFine}
 use Rattle.commands.specs.Job.{Ends, IsBuiltTold, IsDoneLine, IsUnwritten, Seen}
 use Rattle.commands.specs.Parts.{IsReady, IsWritten}
 use Rattle.commands.specs.declared.job.Ending.{Ending}
 
-fine_told : (o : Option Files) (paths : Paths) (text line : Text) → IfSome o (λ files. IsReady paths files text line) → IfSome o (λ files. AreFine paths files)
-fine_told None paths text line h = tt
-fine_told (Some files) paths text line h = (h.program, h.bytes, h.statements, h.board, h.read, h.fine)
+fine_told : (o : Option Files) (job : Build) (text line : Text) → IfSome o (λ files. IsReady job files text line) → IfSome o (λ files. AreFine job files)
+fine_told None job text line h = tt
+fine_told (Some files) job text line h = (h.program, h.bytes, h.statements, h.board, h.read, h.fine)
 
-fine_named : (o : Option Files) (paths : Paths) (name text line : Text) → name ≡ paths.image → IfSome o (λ files. IsReady paths files text line)
-    → IfSome o (λ files. (name ≡ paths.image) × AreFine paths files)
-fine_named None paths name text line e h = tt
-fine_named (Some files) paths name text line e h = (e, (h.program, h.bytes, h.statements, h.board, h.read, h.fine))
+fine_named : (o : Option Files) (job : Build) (name text line : Text) → name ≡ job.image → IfSome o (λ files. IsReady job files text line)
+    → IfSome o (λ files. (name ≡ job.image) × AreFine job files)
+fine_named None job name text line e h = tt
+fine_named (Some files) job name text line e h = (e, (h.program, h.bytes, h.statements, h.board, h.read, h.fine))
 
-done_line : (o : Option Files) (paths : Paths) (text line : Text) → IfSome o (λ files. IsReady paths files text line) → (code : ℕ) × (bytes : ℕ) × (line ≡ built_line code bytes) → IsDoneLine paths o line
-done_line None paths text line h any = any
-done_line (Some files) paths text line h any = record {
+done_line : (o : Option Files) (job : Build) (text line : Text) → IfSome o (λ files. IsReady job files text line) → (code : ℕ) × (bytes : ℕ) × (line ≡ built_line code bytes) → IsDoneLine job o line
+done_line None job text line h any = any
+done_line (Some files) job text line h any = record {
   text = h.program;
   bytes = h.bytes;
   statements = h.statements;
@@ -32,34 +32,34 @@ done_line (Some files) paths text line h any = record {
   tells = h.tells;
 }
 
-built_told : (o n : Option Files) (paths : Paths) (text line : Text) → IfSome o (λ files. IsReady paths files text line) → WritesTold paths.image text o n → IsBuiltTold paths o n
-built_told None None paths text line h w = tt
-built_told (Some old) None paths text line h w = w
-built_told None (Some new) paths text line h w = w
-built_told (Some old) (Some new) paths text line h w = record {
+built_told : (o n : Option Files) (job : Build) (text line : Text) → IfSome o (λ files. IsReady job files text line) → WritesTold job.image text o n → IsBuiltTold job o n
+built_told None None job text line h w = tt
+built_told (Some old) None job text line h w = w
+built_told None (Some new) job text line h w = w
+built_told (Some old) (Some new) job text line h w = record {
   text = h.program;
   bytes = h.bytes;
   statements = h.statements;
   board = h.board;
   read = h.read;
   fine = h.fine;
-  written = subst (λ t. Writes paths.image t old new) h.spelled w;
+  written = subst (λ t. Writes job.image t old new) h.spelled w;
 }
 
-module _ (paths : Paths) (old mid new : Seen) (files : mid.files ≡ old.files) (writes : mid.writes ≡ old.writes) (reads : mid.reads ≡ old.reads)
-    (text line : Text) (ready : IfSome old.files (λ f. IsReady paths f text line)) (any : (code : ℕ) × (bytes : ℕ) × (line ≡ built_line code bytes)) where
-  ends : (a : Answer) (l : Text) → IsWritten paths.image text line mid new a l → Ends paths old new a l
+module _ (job : Build) (old mid new : Seen) (files : mid.files ≡ old.files) (writes : mid.writes ≡ old.writes) (reads : mid.reads ≡ old.reads)
+    (text line : Text) (ready : IfSome old.files (λ f. IsReady job f text line)) (any : (code : ℕ) × (bytes : ℕ) × (line ≡ built_line code bytes)) where
+  ends : (a : Answer) (l : Text) → IsWritten job.image text line mid new a l → Ends job old new a l
   ends done l h = record {
-    cause = fine_told old.files paths text line ready;
+    cause = fine_told old.files job text line ready;
     leaves = (
-      built_told old.files new.files paths text line ready (subst (λ o. WritesTold paths.image text o new.files) files h.0.files),
+      built_told old.files new.files job text line ready (subst (λ o. WritesTold job.image text o new.files) files h.0.files),
       h.0.writes ∙ writes,
       h.0.reads ∙ reads,
     );
-    tells = subst (λ t. IsDoneLine paths old.files t) (sym h.1) (done_line old.files paths text line ready any);
+    tells = subst (λ t. IsDoneLine job old.files t) (sym h.1) (done_line old.files job text line ready any);
   }
   ends (write_fault name) l h = record {
-    cause = fine_named old.files paths name text line h.0 ready;
+    cause = fine_named old.files job name text line h.0 ready;
     leaves = (
       h.0,
       record {
@@ -70,6 +70,7 @@ module _ (paths : Paths) (old mid new : Seen) (files : mid.files ≡ old.files) 
     );
     tells = h.2;
   }
+  ends usage l h = absurd h
   ends (read_fault name) l h = absurd h
   ends no_memory l h = absurd h
   ends (board_refused kind key) l h = absurd h
@@ -81,7 +82,7 @@ module _ (paths : Paths) (old mid new : Seen) (files : mid.files ≡ old.files) 
   unwritten h = record { files = h.files ∙ files; writes = h.writes ∙ writes; reads = subst (λ k. k ≤ new.reads) reads h.reads }
 
   pub written : (r : Result Ending Memory) →
-      MatchResult r (λ e. IsWritten paths.image text line mid new (answer_of e.status) (string_bytes e.line)) (λ _. IsUnwritten mid new) →
-      MatchResult r (λ e. Ends paths old new (answer_of e.status) (string_bytes e.line)) (λ _. IsUnwritten old new)
+      MatchResult r (λ e. IsWritten job.image text line mid new (answer_of e.status) (string_bytes e.line)) (λ _. IsUnwritten mid new) →
+      MatchResult r (λ e. Ends job old new (answer_of e.status) (string_bytes e.line)) (λ _. IsUnwritten old new)
   written (Ok e) h = ends (answer_of e.status) (string_bytes e.line) h
   written (Err m) h = unwritten h

@@ -10,6 +10,7 @@ use Rattle.commands.specs.declared.status.Status.TheVariants as status
 
 pub data Answer : Type 0 where
   done : Answer
+  usage : Answer
   read_fault : Text → Answer
   write_fault : Text → Answer
   no_memory : Answer
@@ -20,6 +21,7 @@ pub data Answer : Type 0 where
 
 abbrev pub answer_of : Status → Answer
 answer_of status.Done = done
+answer_of status.Usage = usage
 answer_of (status.ReadFault name) = read_fault (string_bytes name)
 answer_of (status.WriteFault name) = write_fault (string_bytes name)
 answer_of status.Memory = no_memory
@@ -31,6 +33,7 @@ answer_of (status.NeedsCheckpoint need budget) = needs_checkpoint need budget
 -- the exit status
 abbrev pub code_of : Answer → ℕ
 code_of done = 0
+code_of usage = 2
 code_of (read_fault name) = 3
 code_of (write_fault name) = 4
 code_of no_memory = 5
@@ -53,6 +56,7 @@ unbuilt_text Program = codes "program"
 -- the line of an answer, where a job that was done tells the first text
 abbrev pub line_of : Text → Answer → Text
 line_of shown done = shown
+line_of shown usage = codes "usage: schematic [--budget N] [--steps N] JOB [FILE]...\n"
 line_of shown (read_fault name) = codes "cannot read " ++ (name ++ codes "\n")
 line_of shown (write_fault name) = codes "cannot write " ++ (name ++ codes "\n")
 line_of shown no_memory = codes "out of memory\n"

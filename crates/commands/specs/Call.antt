@@ -1,24 +1,31 @@
 -- What a whole call comes to: how its job ends, and what is put of it.
 use Rattle.std.specs.Prelude.{◌≡◌, ◌≤◌, ◌⊎◌, ◌++◌, ℕ, List, [], length, take, Option, Some, None, ⊤}
 use Rattle.base_io.specs.Counts.{Rose}
-use Rattle.commands.specs.Words.{Text, Paths, asked}
-use Rattle.commands.specs.Answers.{Answer, write_fault, no_memory, not_built, line_of}
+use Rattle.job_parts.specs.Asked.{Request, Task, asked, build}
+use Rattle.commands.specs.Words.{Text}
+use Rattle.commands.specs.Answers.{Answer, usage, write_fault, no_memory, not_built, line_of}
 use Rattle.commands.specs.Job.{Ends, IsUnwritten, Seen}
 use Rattle.commands.specs.Causes.{output}
 use Rattle.commands.specs.declared.status.Unbuilt.TheVariants.{Words}
 
--- words without a reading touch no file
-pub record IsRefusedAtOnce (old new : Seen) (a : Answer) (line : Text) : Type 0 where
-  pub answer : a ≡ not_built Words
+-- the words are refused, and no file is touched
+pub record IsRefusedAtOnce (refusal : Answer) (old new : Seen) (a : Answer) (line : Text) : Type 0 where
+  pub answer : a ≡ refusal
   pub files : new.files ≡ old.files
   pub writes : new.writes ≡ old.writes
   pub reads : new.reads ≡ old.reads
   pub tells : line ≡ line_of [] a
 
+-- how a job ends, under the budget that is asked for
+abbrev pub TaskEnds : Task → Option ℕ → Seen → Seen → Answer → Text → Type 0
+TaskEnds (build program board image certificate) budget old new a line =
+    Ends (record { program = program; board = board; image = image; certificate = certificate; budget = budget }) old new a line
+TaskEnds task budget old new a line = IsRefusedAtOnce (not_built Words) old new a line
+
 -- how the job of the words ends
-abbrev pub ComesTo : Option Paths → Seen → Seen → Answer → Text → Type 0
-ComesTo None old new a line = IsRefusedAtOnce old new a line
-ComesTo (Some paths) old new a line = Ends paths old new a line
+abbrev pub ComesTo : Option Request → Seen → Seen → Answer → Text → Type 0
+ComesTo None old new a line = IsRefusedAtOnce usage old new a line
+ComesTo (Some r) old new a line = TaskEnds r.task r.budget old new a line
 
 -- there was no memory, before anything was written
 pub record IsGivenUp (old new : Seen) (a : Answer) (line : Text) : Type 0 where

@@ -1,19 +1,20 @@
 -- When faults are answered, by the counts of the store and of the output, and that nothing else comes between.
-use Rattle.std.specs.Prelude.{◌≡◌, ◌⊎◌, ◌+◌, ℕ, List, Some, None, ⊤}
+use Rattle.std.specs.Prelude.{◌≡◌, ◌⊎◌, ◌+◌, ℕ, List, None, ⊤}
 use Rattle.base_io.specs.Counts.{Rose}
 use Rattle.base_io.specs.Files.{Files}
-use Rattle.commands.specs.Words.{Text, Paths, asked}
-use Rattle.commands.specs.Answers.{Answer, read_fault, write_fault, no_memory, too_large, not_built}
+use Rattle.job_parts.specs.Asked.{asked}
+use Rattle.commands.specs.Words.{Text, Build, AskBuild, AskUnbuilt}
+use Rattle.commands.specs.Answers.{Answer, usage, read_fault, write_fault, no_memory, too_large, not_built}
 use Rattle.commands.specs.Causes.{HasCause, most_bytes, output}
 use Rattle.commands.specs.declared.status.Unbuilt.TheVariants.{Words}
 
 -- the words name the file as one that is read
 abbrev pub IsToRead : List Text → Text → Type 0
-IsToRead words name = (paths : Paths) × (asked words ≡ Some paths) × ((name ≡ paths.program) ⊎ (name ≡ paths.board))
+IsToRead words name = (job : Build) × AskBuild words job × ((name ≡ job.program) ⊎ (name ≡ job.board))
 
 -- the words name the file as the image
 abbrev pub IsToWrite : List Text → Text → Type 0
-IsToWrite words name = (paths : Paths) × (asked words ≡ Some paths) × (name ≡ paths.image)
+IsToWrite words name = (job : Build) × AskBuild words job × (name ≡ job.image)
 
 -- A read fault names a file that the words name to be read, the last that the store failed at, and comes only where the count rose.
 abbrev pub ReadFaultIs : List Text → ℕ → ℕ → Text → Answer → Type 0
@@ -31,10 +32,11 @@ abbrev pub TooLargeIs : List Text → Answer → Type 0
 TooLargeIs words (too_large name seen) = IsToRead words name × (seen ≡ most_bytes + 1)
 TooLargeIs words a = ⊤
 
--- words without a reading are answered as such, and nothing else is
+-- words without a reading, and those that ask for a job which isn't built, are answered as such, and no others are
 abbrev pub WordsAre : List Text → Answer → Type 0
-WordsAre words (not_built Words) = asked words ≡ None
-WordsAre words a = (asked words ≡ None) → (a ≡ no_memory) ⊎ (a ≡ write_fault output)
+WordsAre words usage = asked words ≡ None
+WordsAre words (not_built Words) = AskUnbuilt words
+WordsAre words a = ((asked words ≡ None) ⊎ AskUnbuilt words) → (a ≡ no_memory) ⊎ (a ≡ write_fault output)
 
 -- Where the count of reads that failed rose, the answer is a read fault, want of memory, or that the output failed.
 abbrev pub IsReadFaultOrFree : Answer → Type 0

@@ -1,7 +1,6 @@
 -- The whole promise of a build that was done.
 use Rattle.std.specs.Prelude.{◌≡◌, List, Option, Some, None, ⊤}
 use Rattle.base_io.specs.Files.{Files, Writes}
-use Rattle.board_table.specs.File.{IsBoardOf}
 use Rattle.board_table.specs.declared.board.Board.{Board}
 use Rattle.ti_txt.specs.Image.{Block, IsImage}
 use Rattle.ti_txt.specs.Spelling.{text_of}
@@ -12,27 +11,29 @@ use Rattle.msp430_machine.specs.First.{IsFirst, HoldsBlocks}
 use Rattle.power_core.specs.Agreement.{Agrees}
 use Rattle.power_core.specs.Enduring.{Endures}
 use Rattle.straight_programs.specs.declared.program.Statement.{Statement}
-use Rattle.commands.specs.Words.{Text, Paths, asked}
+use Rattle.commands.specs.Words.{Text, Build, AskBuild}
+use Rattle.commands.specs.Budget.{IsBoardWith}
 
 -- The words name four files. PROG holds the text of a program and BOARD that of a board. IMAGE now holds the one spelling
--- of an image, and no other file changed. On that board the image agrees with what the program does, under every supply
--- whose refills each reach the budget, and under any supply at all it never resumes half-done work.
+-- of an image, and no other file changed. On that board, with the budget that the words ask for if they ask for one, the
+-- image agrees with what the program does, under every supply whose refills each reach the budget, and under any supply at
+-- all it never resumes half-done work.
 pub record IsKept (words : List Text) (old new : Files) : Type 0 where
-  pub paths : Paths
-  pub asks : asked words ≡ Some paths
+  pub job : Build
+  pub asks : AskBuild words job
   pub text : Text
-  pub program_file : old paths.program ≡ Some text
+  pub program_file : old job.program ≡ Some text
   pub statements : List Statement
   pub program : IsProgram text statements
   pub bytes : Text
-  pub board_file : old paths.board ≡ Some bytes
+  pub board_file : old job.board ≡ Some bytes
   pub board : Board
-  pub is_board : IsBoardOf bytes board
+  pub is_board : IsBoardWith job.budget bytes board
   pub image : List Block
   pub is_image : IsImage image
   -- some device can be loaded with it
   pub held : (s : State) × IsFirst s × HoldsBlocks s image
-  pub written : Writes paths.image (text_of image) old new
+  pub written : Writes job.image (text_of image) old new
   pub agrees : Agrees (does statements) (nodes_of statements) image board
   pub endures : Endures (does statements) (nodes_of statements) image board
 

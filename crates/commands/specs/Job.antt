@@ -7,8 +7,8 @@ use Rattle.ti_txt.specs.Image.{Block}
 use Rattle.emit_layout.specs.Operations.{objects_of}
 use Rattle.emit_layout.specs.Straight.{straight_blocks}
 use Rattle.straight_programs.specs.declared.program.Statement.{Statement}
-use Rattle.commands.specs.Words.{Text, Paths}
-use Rattle.commands.specs.Answers.{Answer, done, read_fault, write_fault, no_memory, too_large, not_built, line_of, built_line}
+use Rattle.commands.specs.Words.{Text, Build}
+use Rattle.commands.specs.Answers.{Answer, done, usage, read_fault, write_fault, no_memory, too_large, not_built, line_of, built_line}
 use Rattle.commands.specs.Causes.{AreRead, Causes, IsFine, most_bytes}
 use Rattle.commands.specs.Left.{IsBuilt}
 use Rattle.commands.specs.declared.status.Unbuilt.TheVariants.{Words}
@@ -34,27 +34,28 @@ pub record IsFailedWrite (old new : Seen) : Type 0 where
   pub writes : (old.writes ≤ new.writes) × Rose old.writes new.writes
   pub reads : new.reads ≡ old.reads
 
-abbrev pub IsBuiltTold : Paths → Option Files → Option Files → Type 0
-IsBuiltTold paths (Some old) (Some new) = IsBuilt paths old new
-IsBuiltTold paths None None = ⊤
-IsBuiltTold paths (Some old) None = ⊥
-IsBuiltTold paths None (Some new) = ⊥
+abbrev pub IsBuiltTold : Build → Option Files → Option Files → Type 0
+IsBuiltTold job (Some old) (Some new) = IsBuilt job old new
+IsBuiltTold job None None = ⊤
+IsBuiltTold job (Some old) None = ⊥
+IsBuiltTold job None (Some new) = ⊥
 
 -- an answer before anything is written, by the count of reads that failed
-abbrev pub CountsReading : Paths → ℕ → ℕ → Text → Answer → Type 0
-CountsReading paths before now bad (read_fault name) = ((name ≡ paths.program) ⊎ (name ≡ paths.board)) × (name ≡ bad) × Rose before now
-CountsReading paths before now bad (too_large name seen) = ((name ≡ paths.program) ⊎ (name ≡ paths.board)) × (seen ≡ most_bytes + 1) × (now ≡ before)
-CountsReading paths before now bad no_memory = ⊤
-CountsReading paths before now bad done = ⊥
-CountsReading paths before now bad (write_fault name) = ⊥
-CountsReading paths before now bad (not_built Words) = ⊥
-CountsReading paths before now bad a = now ≡ before
+abbrev pub CountsReading : Build → ℕ → ℕ → Text → Answer → Type 0
+CountsReading job before now bad (read_fault name) = ((name ≡ job.program) ⊎ (name ≡ job.board)) × (name ≡ bad) × Rose before now
+CountsReading job before now bad (too_large name seen) = ((name ≡ job.program) ⊎ (name ≡ job.board)) × (seen ≡ most_bytes + 1) × (now ≡ before)
+CountsReading job before now bad no_memory = ⊤
+CountsReading job before now bad done = ⊥
+CountsReading job before now bad usage = ⊥
+CountsReading job before now bad (write_fault name) = ⊥
+CountsReading job before now bad (not_built Words) = ⊥
+CountsReading job before now bad a = now ≡ before
 
 -- what an answer leaves of the files and of the counts
-abbrev pub LeavesStore : Paths → Seen → Seen → Answer → Type 0
-LeavesStore paths old new done = IsBuiltTold paths old.files new.files × (new.writes ≡ old.writes) × (new.reads ≡ old.reads)
-LeavesStore paths old new (write_fault name) = (name ≡ paths.image) × IsFailedWrite old new
-LeavesStore paths old new a = IsUnwritten old new × CountsReading paths old.reads new.reads new.bad a
+abbrev pub LeavesStore : Build → Seen → Seen → Answer → Type 0
+LeavesStore job old new done = IsBuiltTold job old.files new.files × (new.writes ≡ old.writes) × (new.reads ≡ old.reads)
+LeavesStore job old new (write_fault name) = (name ≡ job.image) × IsFailedWrite old new
+LeavesStore job old new a = IsUnwritten old new × CountsReading job old.reads new.reads new.bad a
 
 -- ---- The line
 
@@ -64,28 +65,28 @@ code_size [] = 0
 code_size (b ∷ rest) = if b.start == 0x8000 then length b.bytes else code_size rest
 
 -- the line tells the size of the program's code
-pub record TellsSize (paths : Paths) (files : Files) (line : Text) : Type 0 where
+pub record TellsSize (job : Build) (files : Files) (line : Text) : Type 0 where
   pub text : Text
   pub bytes : Text
   pub statements : List Statement
   pub board : Board
-  pub read : AreRead paths files text bytes
-  pub fine : IsFine text bytes statements board
+  pub read : AreRead job files text bytes
+  pub fine : IsFine job.budget text bytes statements board
   pub tells : line ≡ built_line (code_size (straight_blocks statements)) (2 * objects_of statements)
 
-abbrev pub IsDoneLine : Paths → Option Files → Text → Type 0
-IsDoneLine paths (Some files) line = TellsSize paths files line
-IsDoneLine paths None line = (code : ℕ) × (bytes : ℕ) × (line ≡ built_line code bytes)
+abbrev pub IsDoneLine : Build → Option Files → Text → Type 0
+IsDoneLine job (Some files) line = TellsSize job files line
+IsDoneLine job None line = (code : ℕ) × (bytes : ℕ) × (line ≡ built_line code bytes)
 
 -- the line that tells an answer of a build of these files
-abbrev pub IsBuildLine : Paths → Option Files → Answer → Text → Type 0
-IsBuildLine paths files done line = IsDoneLine paths files line
-IsBuildLine paths files a line = line ≡ line_of [] a
+abbrev pub IsBuildLine : Build → Option Files → Answer → Text → Type 0
+IsBuildLine job files done line = IsDoneLine job files line
+IsBuildLine job files a line = line ≡ line_of [] a
 
 -- ---- The whole
 
 -- how a build ends: why, what it leaves, and the line that tells it
-pub record Ends (paths : Paths) (old new : Seen) (a : Answer) (line : Text) : Type 0 where
-  pub cause : IfSome old.files (λ files. Causes paths files a)
-  pub leaves : LeavesStore paths old new a
-  pub tells : IsBuildLine paths old.files a line
+pub record Ends (job : Build) (old new : Seen) (a : Answer) (line : Text) : Type 0 where
+  pub cause : IfSome old.files (λ files. Causes job files a)
+  pub leaves : LeavesStore job old new a
+  pub tells : IsBuildLine job old.files a line

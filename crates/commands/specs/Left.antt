@@ -5,23 +5,23 @@ use Rattle.board_table.specs.declared.board.Board.{Board}
 use Rattle.ti_txt.specs.Spelling.{text_of}
 use Rattle.emit_layout.specs.Straight.{straight_blocks}
 use Rattle.straight_programs.specs.declared.program.Statement.{Statement}
-use Rattle.commands.specs.Words.{Text, Paths, asked}
-use Rattle.commands.specs.Answers.{Answer, done, read_fault, write_fault, no_memory, board_refused, too_large, not_built, needs_checkpoint}
+use Rattle.commands.specs.Words.{Text, Build, AskBuild}
+use Rattle.commands.specs.Answers.{Answer, done, usage, read_fault, write_fault, no_memory, board_refused, too_large, not_built, needs_checkpoint}
 use Rattle.commands.specs.Causes.{AreRead, IsFine, output}
 
 -- The files are a program and a board on which it fits, and it was built: IMAGE holds the one text of the
 -- program's image, and no other file changed.
-pub record IsBuilt (paths : Paths) (old new : Files) : Type 0 where
+pub record IsBuilt (job : Build) (old new : Files) : Type 0 where
   pub text : Text
   pub bytes : Text
   pub statements : List Statement
   pub board : Board
-  pub read : AreRead paths old text bytes
-  pub fine : IsFine text bytes statements board
-  pub written : Writes paths.image (text_of (straight_blocks statements)) old new
+  pub read : AreRead job old text bytes
+  pub fine : IsFine job.budget text bytes statements board
+  pub written : Writes job.image (text_of (straight_blocks statements)) old new
 
 abbrev pub AskedAndBuilt : List Text → Files → Files → Type 0
-AskedAndBuilt words old new = (paths : Paths) × (asked words ≡ Some paths) × IsBuilt paths old new
+AskedAndBuilt words old new = (job : Build) × AskBuild words job × IsBuilt job old new
 
 -- What an answer leaves. A build that was done is written. No other file changes, and no file at all behind another answer,
 -- but that a build may be written where the output failed behind it.
@@ -30,6 +30,7 @@ Leaves words done old new = AskedAndBuilt words old new
 Leaves words (write_fault name) old new = (new ≡ old) ⊎ ((name ≡ output) × AskedAndBuilt words old new)
 Leaves words (read_fault name) old new = new ≡ old
 Leaves words no_memory old new = new ≡ old
+Leaves words usage old new = new ≡ old
 Leaves words (board_refused kind key) old new = new ≡ old
 Leaves words (too_large name seen) old new = new ≡ old
 Leaves words (not_built what) old new = new ≡ old

@@ -1,5 +1,6 @@
 -- what the contract of `schematic` rests on
 pub mod Words
+pub mod Budget
 pub mod Answers
 pub mod Causes
 pub mod Faults
@@ -9,5 +10,5 @@ pub mod Call
 pub mod Headline
 pub mod Laws
 -- what the functions of the crate promise each other
-pub mod Paths
+pub mod InCode
 pub mod Parts

@@ -1,5 +1,5 @@
 -- What the parts of a build promise each other.
-use Rattle.std.specs.Prelude.{◌≡◌, ◌<◌, ◌⊎◌, ◌+◌, ◌*◌, ℕ, List, [], length, IsSomeAnd, ⊤}
+use Rattle.std.specs.Prelude.{◌≡◌, ◌<◌, ◌⊎◌, ◌+◌, ◌*◌, ℕ, List, [], length, Option, IsSomeAnd, ⊤}
 use Rattle.base_io.specs.Counts.{Rose}
 use Rattle.base_io.specs.Files.{Files, WritesTold}
 use Rattle.board_table.specs.declared.board.Board.{Board}
@@ -8,7 +8,7 @@ use Rattle.ti_txt.specs.Spelling.{text_of}
 use Rattle.emit_layout.specs.Operations.{objects_of}
 use Rattle.emit_layout.specs.Straight.{straight_blocks}
 use Rattle.straight_programs.specs.declared.program.Statement.{Statement}
-use Rattle.commands.specs.Words.{Text, Paths}
+use Rattle.commands.specs.Words.{Text, Build}
 use Rattle.commands.specs.Answers.{Answer, answer_of, done, read_fault, write_fault, no_memory, board_refused, too_large, not_built, line_of, built_line}
 use Rattle.commands.specs.Causes.{AreRead, IsFine, IsNoBoard, most_bytes}
 use Rattle.commands.specs.Job.{IsFailedWrite, Seen, code_size}
@@ -33,10 +33,10 @@ IsBoardRefused bytes no_memory = ⊤
 IsBoardRefused bytes a = ⊥
 
 -- what is to be written for a program and a board, and the line that tells it
-pub record IsReadyOf (program bytes : Text) (text line : Text) : Type 0 where
+pub record IsReadyOf (wanted : Option ℕ) (program bytes : Text) (text line : Text) : Type 0 where
   pub statements : List Statement
   pub board : Board
-  pub fine : IsFine program bytes statements board
+  pub fine : IsFine wanted program bytes statements board
   pub spelled : text ≡ text_of (straight_blocks statements)
   pub tells : line ≡ built_line (code_size (straight_blocks statements)) (2 * objects_of statements)
 
@@ -59,13 +59,13 @@ CountsUnread name before now bad a = ⊥
 -- ---- Both files
 
 -- what is to be written for the files, and the line that tells it
-pub record IsReady (paths : Paths) (files : Files) (text : Text) (line : Text) : Type 0 where
+pub record IsReady (job : Build) (files : Files) (text : Text) (line : Text) : Type 0 where
   pub program : Text
   pub bytes : Text
   pub statements : List Statement
   pub board : Board
-  pub read : AreRead paths files program bytes
-  pub fine : IsFine program bytes statements board
+  pub read : AreRead job files program bytes
+  pub fine : IsFine job.budget program bytes statements board
   pub spelled : text ≡ text_of (straight_blocks statements)
   pub tells : line ≡ built_line (code_size (straight_blocks statements)) (2 * objects_of statements)
 

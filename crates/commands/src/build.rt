@@ -1,4 +1,4 @@
-ghost use Rattle.std.specs.Prelude.{◌≡◌, ◌*◌, ◌≤◌, length, map, sum_by, IfOk, MatchResult, string_bytes};
+ghost use Rattle.std.specs.Prelude.{◌≡◌, ◌*◌, ◌≤◌, length, map, sum_by, unwrap_or, IfOk, IfSome, MatchResult, string_bytes};
 ghost use Rattle.board_table.specs.File.{IsBoardOf};
 ghost use Rattle.emit_layout.specs.Operations.{objects_of};
 ghost use Rattle.emit_layout.specs.Straight.{straight_blocks};
@@ -6,6 +6,7 @@ ghost use Rattle.straight_programs.specs.Text.{IsProgram, statement_operations};
 ghost use Rattle.ti_txt.specs.Image.{block_of};
 ghost use Rattle.ti_txt.specs.Spelling.{text_of};
 ghost use Rattle.commands.specs.Answers.{answer_of, built_line};
+ghost use Rattle.commands.specs.Budget.{IsBoardWith};
 ghost use Rattle.commands.specs.Causes.{IsRefused};
 ghost use Rattle.commands.specs.Parts.{IsBoardRefused, IsProgramRefused, IsReadyOf};
 ghost use Rattle.commands.specs.Job.{code_size};
@@ -64,14 +65,46 @@ fn board_of(alloc: Global, bytes: &[u8]) -> Result<Board, Status>
     }
 }
 
-/// What a program and a board come to.
-pub fn ready_of(alloc: Global, program: &[u8], board: &[u8]) -> Result<Ready, Status>
+// The board with this budget in place of its own, if one is given.
+fn with_budget(board: Board, budget: Option<u64>) -> Board
+    requires range { IfSome budget (λ n. (1 ≤ n) × (n ≤ 1000000000)) }
+    ensures budget { result.budget ≡ unwrap_or budget board.budget }
+    ensures core { result.core ≡ board.core }
+    ensures access { result.access ≡ board.access }
+{
+    match budget {
+        Some(budget) => Board {
+            budget,
+            core: board.core,
+            access: board.access,
+        },
+        None => board,
+    }
+}
+
+// The board of a file, with this budget in place of its own, if one is given.
+fn board_with(alloc: Global, bytes: &[u8], budget: Option<u64>) -> Result<Board, Status>
+    requires range { IfSome budget (λ n. (1 ≤ n) × (n ≤ 1000000000)) }
+    ensures { MatchResult result (IsBoardWith budget bytes.now) (λ s. IsBoardRefused bytes.now (answer_of s)) }
+{
+    let board = board_of(alloc, bytes)?;
+    Ok(with_budget(board, budget))
+}
+
+/// What a program and a board come to, with this budget in place of the board's, if one is given.
+pub fn ready_of(
+    alloc: Global,
+    program: &[u8],
+    board: &[u8],
+    budget: Option<u64>,
+) -> Result<Ready, Status>
+    requires range { IfSome budget (λ n. (1 ≤ n) × (n ≤ 1000000000)) }
     ensures { MatchResult result
-        (λ r. IsReadyOf program.now board.now r.text.items (string_bytes r.line))
-        (λ s. IsRefused program.now board.now (answer_of s)) }
+        (λ r. IsReadyOf budget program.now board.now r.text.items (string_bytes r.line))
+        (λ s. IsRefused budget program.now board.now (answer_of s)) }
 {
     let statements = statements_of(alloc, program)?;
-    let board = board_of(alloc, board)?;
+    let board = board_with(alloc, board, budget)?;
     let need = straight_need(&board, &statements);
     if board.budget < need {
         return Err(Status::NeedsCheckpoint {

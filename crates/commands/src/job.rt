@@ -3,12 +3,12 @@ ghost use Rattle.commands.specs.Answers.{answer_of, built_line, line_of, read_fa
 ghost use Rattle.commands.specs.Causes.{Causes, IsRead};
 ghost use Rattle.commands.specs.Job.{CountsReading, Ends, IsUnwritten};
 ghost use Rattle.commands.specs.Parts.{CountsUnread, IsOrNoMemory, IsReady, IsUnread, IsWritten};
-ghost use Rattle.commands.specs.Paths.{named};
+ghost use Rattle.commands.specs.InCode.{named};
 
 use crate::Status;
 use crate::build::{Ready, ready_of};
+use crate::build_job::BuildJob;
 use crate::status::line_of;
-use crate::words::BuildPaths;
 use base_io::{GetFault, Memory, Store};
 use std::alloc::Global;
 
@@ -60,21 +60,21 @@ fn read<S: Store>(alloc: Global, name: &str, store: &mut S) -> Result<Vec<u8>, S
 }
 
 // Reads the files and builds the image's text.
-fn ready<S: Store>(alloc: Global, paths: &BuildPaths, store: &mut S) -> Result<Ready, Status>
+fn ready<S: Store>(alloc: Global, job: &BuildJob, store: &mut S) -> Result<Ready, Status>
     ensures files { S.files store.new ≡ S.files store.old }
     ensures writes { S.write_faults store.new ≡ S.write_faults store.old }
     ensures later { S.read_faults store.old ≤ S.read_faults store.new }
     ensures told { IfSome (S.files store.old) (λ files. MatchResult result
-        (λ r. IsReady (named paths.now) files r.text.items (string_bytes r.line))
-        (λ status. Causes (named paths.now) files (answer_of status))) }
+        (λ r. IsReady (named job.now) files r.text.items (string_bytes r.line))
+        (λ status. Causes (named job.now) files (answer_of status))) }
     ensures line { IfOk result (λ r. (code : ℕ) × (bytes : ℕ) × (string_bytes r.line ≡ built_line code bytes)) }
     ensures counts { MatchResult result
         (λ r. S.read_faults store.new ≡ S.read_faults store.old)
-        (λ status. CountsReading (named paths.now) (S.read_faults store.old) (S.read_faults store.new) (S.bad_name store.new) (answer_of status)) }
+        (λ status. CountsReading (named job.now) (S.read_faults store.old) (S.read_faults store.new) (S.bad_name store.new) (answer_of status)) }
 {
-    let program = read(alloc, paths.program, store)?;
-    let board = read(alloc, paths.board, store)?;
-    ready_of(alloc, &program, &board)
+    let program = read(alloc, job.program, store)?;
+    let board = read(alloc, job.board, store)?;
+    ready_of(alloc, &program, &board, job.budget)
 }
 
 /// How a job ends with this status, which is not that it was done.
@@ -118,9 +118,9 @@ fn write<S: Store>(alloc: Global, name: &str, ready: Ready, store: &mut S) -> Re
 }
 
 /// Builds the image of a program for a board, and writes it.
-pub fn build<S: Store>(alloc: Global, paths: &BuildPaths, store: &mut S) -> Result<Ending, Memory>
+pub fn build<S: Store>(alloc: Global, job: &BuildJob, store: &mut S) -> Result<Ending, Memory>
     ensures { MatchResult result
-        (λ e. Ends (named paths.now)
+        (λ e. Ends (named job.now)
         (record { files = S.files store.old; reads = S.read_faults store.old; writes = S.write_faults store.old; bad = S.bad_name store.old })
         (record { files = S.files store.new; reads = S.read_faults store.new; writes = S.write_faults store.new; bad = S.bad_name store.new })
         (answer_of e.status) (string_bytes e.line))
@@ -128,8 +128,8 @@ pub fn build<S: Store>(alloc: Global, paths: &BuildPaths, store: &mut S) -> Resu
         (record { files = S.files store.old; reads = S.read_faults store.old; writes = S.write_faults store.old; bad = S.bad_name store.old })
         (record { files = S.files store.new; reads = S.read_faults store.new; writes = S.write_faults store.new; bad = S.bad_name store.new })) }
 {
-    match ready(alloc, paths, store) {
-        Ok(ready) => write(alloc, paths.image, ready, store),
+    match ready(alloc, job, store) {
+        Ok(ready) => write(alloc, job.image, ready, store),
         Err(status) => told(alloc, status),
     }
 }

@@ -2,12 +2,12 @@
 #![tactic(auto)]
 
 mod build;
+mod build_job;
 mod job;
 mod status;
 #[cfg(test)]
 mod tests;
 mod top;
-mod words;
 
 pub use status::{BoardRefusal, Status, Unbuilt};
 pub use top::{schematic, words_and_files_decide_one};

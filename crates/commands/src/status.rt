@@ -7,7 +7,7 @@ use std::alloc::{AllocError, Global};
 /// Which part of what was asked isn't built yet.
 #[derive(Clone, Copy, Debug, PartialEq, Eq)]
 pub enum Unbuilt {
-    /// The words of the command line.
+    /// The job that the words of the command line ask for.
     Words,
     /// The form of the program.
     Program,
@@ -27,6 +27,8 @@ pub enum BoardRefusal {
 pub enum Status {
     /// The job was done.
     Done,
+    /// The words of the command line have no reading.
+    Usage,
     /// The file could not be read.
     ReadFault { name: String },
     /// The file could not be written; `-` is the output.
@@ -50,6 +52,7 @@ impl Status {
     {
         match self {
             Status::Done => 0,
+            Status::Usage => 2,
             Status::ReadFault { .. } => 3,
             Status::WriteFault { .. } => 4,
             Status::Memory => 5,
@@ -76,6 +79,10 @@ fn written_line(alloc: Global, status: &Status, done: &str) -> Result<String, Al
 {
     match status {
         Status::Done => String::from_str(alloc, done),
+        Status::Usage => String::from_str(
+            alloc,
+            "usage: schematic [--budget N] [--steps N] JOB [FILE]...\n",
+        ),
         Status::ReadFault { name } => format!(in alloc; "cannot read {name}\n"),
         Status::WriteFault { name } => format!(in alloc; "cannot write {name}\n"),
         Status::Memory => String::from_str(alloc, "out of memory\n"),

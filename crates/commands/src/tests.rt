@@ -43,6 +43,14 @@ const FIRST: Row = Row {
     ),
 };
 
+const UNREADABLE: Row = Row {
+    code: 2,
+    status: "Usage",
+    put: "usage: schematic [--budget N] [--steps N] JOB [FILE]...\n",
+    image: None,
+    ..FIRST
+};
+
 const UNWORDED: Row = Row {
     code: 30,
     status: "NotBuilt { what: Words }",
@@ -69,6 +77,13 @@ const DEAR: Row = Row {
     code: 31,
     image: None,
     ..FIRST
+};
+
+/// The first program where the budget is one short.
+const SHORT: Row = Row {
+    status: "NeedsCheckpoint { need: 86, budget: 85 }",
+    put: "needs checkpoint: 86 of 85\n",
+    ..DEAR
 };
 
 const UNREAD: Row = Row {
@@ -98,8 +113,8 @@ const UNPUT: Row = Row {
     ..FIRST
 };
 
-/// The first program alone, then what is built, needs too much, is no board, no words or no program, isn't read, written or put.
-static ROWS: [Row; 41] = [
+/// The first program alone, then what is built, needs too much, is no board or no program, isn't read, written or put.
+static ROWS: [Row; 35] = [
     FIRST,
     Row {
         statements: ("unsigned int a=in();out(a+1u);", 1),
@@ -190,9 +205,37 @@ static ROWS: [Row; 41] = [
     },
     Row {
         board: ["budget = 85\n", "fetch = 2\n", ""],
-        status: "NeedsCheckpoint { need: 86, budget: 85 }",
-        put: "needs checkpoint: 86 of 85\n",
-        ..DEAR
+        ..SHORT
+    },
+    // The budget of the words takes the place of the board's.
+    Row {
+        words: &[
+            "--budget", "86", "build", "p.c", "b.toml", "p.txt", "p.cert",
+        ],
+        ..FIRST
+    },
+    Row {
+        words: &["build", "p.c", "b.toml", "p.txt", "p.cert", "--budget=85"],
+        ..SHORT
+    },
+    Row {
+        words: &[
+            "build",
+            "--budget=1000000000",
+            "p.c",
+            "b.toml",
+            "p.txt",
+            "p.cert",
+        ],
+        board: ["budget = 1\n", "fetch = 2\n", ""],
+        ..FIRST
+    },
+    Row {
+        words: &["build", "--budget=2000", "p.c", "b.toml", "p.txt", "p.cert"],
+        status: "BoardRefused { fault: OutOfRange, key: \"budget\" }",
+        put: "board refused: OutOfRange budget\n",
+        board: ["budget = 0\n", "fetch = 2\n", ""],
+        ..REFUSED
     },
     Row {
         status: "BoardRefused { fault: Extra, key: \"access.spare\" }",
@@ -223,46 +266,6 @@ static ROWS: [Row; 41] = [
         put: "board refused: Missing budget\n",
         words: &["build", "p.c", "empty", "p.txt", "p.cert"],
         ..REFUSED
-    },
-    Row {
-        words: &[],
-        ..UNWORDED
-    },
-    Row {
-        words: &["build"],
-        ..UNWORDED
-    },
-    Row {
-        words: &["check", "p.c", "b.toml", "p.txt", "p.cert"],
-        ..UNWORDED
-    },
-    Row {
-        words: &["build", "p.c", "b.toml", "p.txt"],
-        ..UNWORDED
-    },
-    Row {
-        words: &["build", "p.c", "b.toml", "p.txt", "p.cert", "q"],
-        ..UNWORDED
-    },
-    Row {
-        words: &["build", "p.c", "b.toml", "p.txt", "p.txt"],
-        ..UNWORDED
-    },
-    Row {
-        words: &["build", "p.c", "p.c", "p.txt", "p.cert"],
-        ..UNWORDED
-    },
-    Row {
-        words: &["build", "p.c", "b.toml", "p.c", "p.cert"],
-        ..UNWORDED
-    },
-    Row {
-        words: &["build", "p.c", "b.toml", "p.txt", "-"],
-        ..UNWORDED
-    },
-    Row {
-        words: &["build", "-", "b.toml", "p.txt", "p.cert"],
-        ..UNWORDED
     },
     Row {
         statements: ("out(07);", 1),
@@ -343,7 +346,7 @@ static ROWS: [Row; 41] = [
     Row {
         words: &[],
         rooms: [5, 10000],
-        put: "not b",
+        put: "usage",
         image: None,
         ..UNPUT
     },
@@ -421,17 +424,21 @@ fn compare_files(rt: &impl Abort, alloc: Global, row: &Row, store: &MemStore) ->
     Ok(())
 }
 
-/// Does the job of a row, and compares all that it comes to.
-fn try_row(rt: &impl Abort, alloc: Global, row: &Row) -> Result<(), Fail> {
+/// Does the job of these words with what a row has, and compares all that it comes to.
+fn try_with(rt: &impl Abort, alloc: Global, words: &[&str], row: &Row) -> Result<(), Fail> {
     let mut store = store(alloc, row)?;
     let failing = vec![in alloc; row.failing[2]]?;
     let mut sink = MemSink::new(alloc, row.rooms[0], failing)?;
-    let status = schematic(alloc, row.words, &mut store, &mut sink);
+    let status = schematic(alloc, words, &mut store, &mut sink);
     assert_eq!(rt; status.code(), row.code, "code of {}", row.put);
     let shown = format!(in alloc; "{status:?}")?;
     assert_eq!(rt; shown.as_str(), row.status);
     assert_eq!(rt; sink.bytes(), row.put.as_bytes());
     compare_files(rt, alloc, row, &store)
+}
+
+fn try_row(rt: &impl Abort, alloc: Global, row: &Row) -> Result<(), Fail> {
+    try_with(rt, alloc, row.words, row)
 }
 
 #[test]
@@ -440,4 +447,99 @@ fn builds_or_tells_why(rt: HostRuntime) -> Result<(), Fail> {
         try_row(&rt, rt.alloc(), row)?;
     }
     Ok(())
+}
+
+/// Words that have no reading; one blank parts them.
+const WITHOUT_READING: [&str; 46] = [
+    "build",
+    "build p.c b.toml p.txt",
+    "build p.c b.toml p.txt p.cert q",
+    "build p.c b.toml x x",
+    "build p.c p.c p.txt p.cert",
+    "build p.c b.toml p.c p.cert",
+    "build p.c b.toml p.txt -",
+    "-- build - b.toml p.txt p.cert",
+    "- p.c b.toml p.txt p.cert",
+    "Build p.c b.toml p.txt p.cert",
+    "p.c b.toml p.txt p.cert",
+    " p.c b.toml p.txt p.cert",
+    "check p.txt p.cert",
+    "check p.txt p.cert b.toml q",
+    "check p.txt - b.toml",
+    "run p.txt b.toml i.txt",
+    "say p.c",
+    "say p.c i.txt q",
+    "plan p.c",
+    "plan p.c b.toml q",
+    "gen 65536 1 b.toml",
+    "gen 5 301 b.toml",
+    "gen 5 0 b.toml",
+    "gen +5 1 b.toml",
+    "gen 5 1",
+    "--budget 7 --budget 7 build p.c b.toml p.txt p.cert",
+    "--budget=7 --budget 8 build p.c b.toml p.txt p.cert",
+    "--steps=7 --steps=7 build p.c b.toml p.txt p.cert",
+    "--budget= build p.c b.toml p.txt p.cert",
+    "--budget=0 build p.c b.toml p.txt p.cert",
+    "--budget=1000000001 build p.c b.toml p.txt p.cert",
+    "--budget +7 build p.c b.toml p.txt p.cert",
+    "--budget -7 build p.c b.toml p.txt p.cert",
+    "--budget 7x build p.c b.toml p.txt p.cert",
+    "--budget=7= build p.c b.toml p.txt p.cert",
+    "--steps=0 build p.c b.toml p.txt p.cert",
+    "--steps 1000000001 build p.c b.toml p.txt p.cert",
+    "--budget --steps 7 build p.c b.toml p.txt p.cert",
+    "--budget -- 7 build p.c b.toml p.txt p.cert",
+    "--budg 7 build p.c b.toml p.txt p.cert",
+    "--help build p.c b.toml p.txt p.cert",
+    "-h build p.c b.toml p.txt p.cert",
+    "--version build p.c b.toml p.txt p.cert",
+    "-7 build p.c b.toml p.txt p.cert",
+    "build p.c b.toml p.txt p.cert --budget",
+    "build p.c b.toml p.txt p.cert --steps",
+];
+
+/// Words that name a job that isn't built.
+const NOT_BUILT_YET: [&str; 10] = [
+    "check p.txt p.cert b.toml",
+    "check q q q",
+    "run p.txt b.toml i.txt s.txt",
+    "run q q q q q q",
+    "say p.c i.txt",
+    "--steps 7 plan --budget=7 p.c b.toml",
+    "gen 65535 0300 b.toml",
+    "gen 0 1 b.toml",
+    "-- plan --budget -7",
+    "say p.c ",
+];
+
+/// Words that ask for the build of the first row.
+const FIRST_BUILD: [&str; 8] = [
+    "--steps=1 build p.c b.toml p.txt p.cert",
+    "build --steps 1000000000 p.c b.toml p.txt p.cert",
+    "--budget 0000000000000000000000086 build p.c b.toml p.txt p.cert",
+    "-- build p.c b.toml p.txt p.cert",
+    "build p.c -- b.toml p.txt p.cert",
+    "build p.c b.toml p.txt p.cert --",
+    "-- build p.c b.toml p.txt --",
+    "build p.c --budget 86 b.toml --steps=7 p.txt -- p.cert",
+];
+
+fn try_words(rt: &impl Abort, alloc: Global, line: &str, row: &Row) -> Result<(), Fail> {
+    let words: Vec<&str> = line.split(' ').collect(alloc)?;
+    try_with(rt, alloc, words.as_slice(), row)
+}
+
+fn try_lines(rt: &impl Abort, alloc: Global, lines: &[&str], row: &Row) -> Result<(), Fail> {
+    for line in lines {
+        try_words(rt, alloc, line, row)?;
+    }
+    Ok(())
+}
+
+#[test]
+fn words_are_read_or_refused(rt: HostRuntime) -> Result<(), Fail> {
+    try_lines(&rt, rt.alloc(), &WITHOUT_READING, &UNREADABLE)?;
+    try_lines(&rt, rt.alloc(), &NOT_BUILT_YET, &UNWORDED)?;
+    try_lines(&rt, rt.alloc(), &FIRST_BUILD, &FIRST)
 }

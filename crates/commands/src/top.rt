@@ -1,8 +1,8 @@
 ghost use Rattle.std.specs.Prelude.{◌≡◌, ◌<◌, map, IfSome, MatchResult, string_bytes};
 ghost use Rattle.base_io.specs.Counts.{Rose};
 ghost use Rattle.commands.specs.Answers.{answer_of, done, write_fault};
-ghost use Rattle.commands.specs.Words.{asked};
-ghost use Rattle.commands.specs.Call.{ComesTo, Puts, Ran};
+ghost use Rattle.job_parts.specs.Asked.{IsInRange, asked, job_task, request};
+ghost use Rattle.commands.specs.Call.{ComesTo, Puts, Ran, TaskEnds};
 ghost use Rattle.commands.specs.Causes.{HasCause, output};
 ghost use Rattle.commands.specs.Faults.{IsComplete, IsReadFaultOrFree, IsWriteFault, ReadFaultIs, TooLargeIs, WordsAre, WriteFaultIs};
 ghost use Rattle.commands.specs.Headline.{IsKeptTold};
@@ -10,15 +10,17 @@ ghost use Rattle.commands.specs.Laws.{DecideOne};
 ghost use Rattle.commands.specs.Job.{IsUnwritten};
 ghost use Rattle.commands.specs.Left.{LeavesTold};
 
+use crate::build_job::BuildJob;
 use crate::job::{Ending, build, told};
-use crate::words::asked;
 use crate::{Status, Unbuilt};
 use base_io::{Memory, Sink, Store};
 use emit_layout::straight_images_agree;
+use job_parts::{Asked, Job, read_words};
 use std::alloc::Global;
 
-/// Does the job that the words after the program's name ask for: `build PROG BOARD IMAGE CERT` builds the image of a program for a
-/// board and writes it under IMAGE. It puts one line that tells how the job ended.
+/// Does the job that the words after the program's name ask for, which are read as `job_parts::read_words` says:
+/// `build PROG BOARD IMAGE CERT` builds the image of a program for a board and writes it under IMAGE. Words without a reading, and
+/// those of a job that isn't built yet, touch no file. It puts one line that tells how the job ended.
 pub fn schematic<S: Store, K: Sink>(
     alloc: Global,
     words: &[&str],
@@ -61,6 +63,43 @@ pub fn words_and_files_decide_one()
     ensures { DecideOne }
 {}
 
+// How a job ends.
+fn job_ended<S: Store>(alloc: Global, asked: &Asked<'_>, store: &mut S) -> Result<Ending, Memory>
+    requires range { IsInRange (request asked.now) }
+    ensures { MatchResult result
+        (λ e. TaskEnds (job_task asked.now.job) asked.now.budget
+        (record { files = S.files store.old; reads = S.read_faults store.old; writes = S.write_faults store.old; bad = S.bad_name store.old })
+        (record { files = S.files store.new; reads = S.read_faults store.new; writes = S.write_faults store.new; bad = S.bad_name store.new })
+        (answer_of e.status) (string_bytes e.line))
+        (λ _. IsUnwritten
+        (record { files = S.files store.old; reads = S.read_faults store.old; writes = S.write_faults store.old; bad = S.bad_name store.old })
+        (record { files = S.files store.new; reads = S.read_faults store.new; writes = S.write_faults store.new; bad = S.bad_name store.new })) }
+{
+    match &asked.job {
+        Job::Build {
+            program,
+            board,
+            image,
+            certificate,
+        } => {
+            let job = BuildJob {
+                program,
+                board,
+                image,
+                certificate,
+                budget: asked.budget,
+            };
+            build(alloc, &job, store)
+        }
+        _ => told(
+            alloc,
+            Status::NotBuilt {
+                what: Unbuilt::Words,
+            },
+        ),
+    }
+}
+
 // How the job of the words ends.
 fn ended<S: Store>(alloc: Global, words: &[&str], store: &mut S) -> Result<Ending, Memory>
     ensures { MatchResult result
@@ -72,14 +111,9 @@ fn ended<S: Store>(alloc: Global, words: &[&str], store: &mut S) -> Result<Endin
         (record { files = S.files store.old; reads = S.read_faults store.old; writes = S.write_faults store.old; bad = S.bad_name store.old })
         (record { files = S.files store.new; reads = S.read_faults store.new; writes = S.write_faults store.new; bad = S.bad_name store.new })) }
 {
-    match asked(words) {
-        Some(paths) => build(alloc, &paths, store),
-        None => told(
-            alloc,
-            Status::NotBuilt {
-                what: Unbuilt::Words,
-            },
-        ),
+    match read_words(alloc, words)? {
+        Some(asked) => job_ended(alloc, &asked, store),
+        None => told(alloc, Status::Usage),
     }
 }
 

@@ -1,5 +1,5 @@
 -- The job that the words ask for, with its files.
-use Rattle.std.specs.Prelude.{◌&&◌, ℕ, Bool, true, not, List, [], ◌∷◌, length, map, Option, Some, None, option_map, option_and_then, unwrap_or, if◌then◌else◌, nat_le, codes}
+use Rattle.std.specs.Prelude.{◌≤◌, ◌&&◌, IfSome, ℕ, Bool, true, not, List, [], ◌∷◌, length, map, Option, Some, None, option_map, option_and_then, unwrap_or, if◌then◌else◌, nat_le, codes}
 use Rattle.std.specs.List.{list_any}
 use Rattle.std.specs.Str.{bytes_eq}
 use Rattle.job_parts.specs.Words.{Word, Given, given_from, nothing, number}
@@ -72,6 +72,15 @@ request_of g = option_map (λ t. record { task = t; budget = g.budget; steps = u
 -- what the words ask for, or nothing where they have no reading
 unfoldable pub asked : List Word → Option Request
 asked words = option_and_then request_of (given_from None nothing words)
+
+-- a number that an option gives
+abbrev pub IsSetting : Option ℕ → Type 0
+IsSetting n = IfSome n (λ m. (1 ≤ m) × (m ≤ 1000000000))
+
+-- the numbers of a request are in their range
+pub record IsInRange (r : Request) : Type 0 where
+  pub budget : IsSetting r.budget
+  pub steps : (1 ≤ r.steps) × (r.steps ≤ 1000000000)
 
 -- ---- the same of the code's types
 

@@ -1,14 +1,15 @@
 //! The words of the command line: what job they ask for, on which files.
 #![tactic(auto)]
 
-ghost use Rattle.std.specs.Prelude.{◌≡◌, IfOk, map, option_map, option_and_then, IsUtf8};
+ghost use Rattle.std.specs.Prelude.{◌≡◌, ◌≤◌, IfOk, IfSome, map, option_map, option_and_then, IsUtf8};
 ghost use Rattle.std.specs.List.{AllByRecursion};
 ghost use Rattle.clap.specs.Words.{all_of, app_of, found_of, rows_of};
 ghost use Rattle.job_parts.specs.Command.{command_app};
-ghost use Rattle.job_parts.specs.Asked.{asked, request, request_of};
+ghost use Rattle.job_parts.specs.Asked.{IsInRange, IsSetting, asked, request, request_of};
 ghost use Rattle.job_parts.specs.Found.{numbers, read_slot, texts_of};
 
 mod decimal;
+mod input;
 mod job;
 #[cfg(test)]
 mod tests;
@@ -17,6 +18,7 @@ use base_io::Memory;
 use clap::error::ErrorKind;
 use clap::{Arg, ArgAction, ArgMatches, Command};
 use decimal::number_in;
+pub use input::{InputFault, read_input};
 pub use job::Job;
 use std::alloc::{AllocError, Global};
 
@@ -54,7 +56,8 @@ fn values<'m, 'a>(matches: &'m ArgMatches<'a>, id: &str) -> Option<&'m [&'a str]
 
 // The value of an option, if it stands there, which is a number from 1 to a thousand million.
 fn setting(values: Option<&[&str]>) -> Option<Option<u64>>
-    ensures { result ≡ read_slot (option_map (λ s. map (λ v. v.now) s.now) values.entry) }
+    ensures value { result ≡ read_slot (option_map (λ s. map (λ v. v.now) s.now) values.entry) }
+    ensures range { IfSome result (λ n. IsSetting n) }
 {
     match values {
         None => Some(None),
@@ -66,7 +69,8 @@ fn setting(values: Option<&[&str]>) -> Option<Option<u64>>
 #[tactic(auto, unfolding(crate::specs::Asked::task_of))]
 // What the matches ask for.
 fn asked_of<'a>(alloc: Global, matches: &ArgMatches<'a>) -> Result<Option<Asked<'a>>, Memory>
-    ensures { IfOk result (λ r. option_map request r ≡ option_and_then request_of (numbers (texts_of (rows_of (found_of matches.now))))) }
+    ensures asks { IfOk result (λ r. option_map request r ≡ option_and_then request_of (numbers (texts_of (rows_of (found_of matches.now))))) }
+    ensures ranges { IfOk result (λ r. IfSome r (λ a. IsInRange (request a))) }
 {
     let Some(budget) = setting(values(matches, "budget")) else {
         return Ok(None);
@@ -102,6 +106,7 @@ fn read_texts(words: &[&str])
 /// `[--budget N] [--steps N] JOB [FILE]...`, with the options anywhere before a word `--`.
 pub fn read_words<'a>(alloc: Global, words: &'a [&'a str]) -> Result<Option<Asked<'a>>, Memory>
     ensures reads { IfOk result (λ r. option_map request r ≡ asked (map (λ s. s.now) words.entry.now)) }
+    ensures ranges { IfOk result (λ r. IfSome r (λ a. IsInRange (request a))) }
 {
     read_texts(words);
     let command = match command(alloc) {

@@ -1,5 +1,5 @@
-//! What each shape of words asks for; 0 stands for no budget.
-use crate::{Asked, Job, read_words};
+//! What each shape of words asks for, where 0 stands for no budget, and which texts are input.
+use crate::{Asked, InputFault, Job, read_input, read_words};
 use std::alloc::Global;
 use std::test::Fail;
 
@@ -96,6 +96,38 @@ fn words_are_read(rt: HostRuntime) -> Result<(), Fail> {
     for (words, wanted) in rows {
         let text = shown(rt.alloc(), words)?;
         assert_eq!(rt; text.as_str(), wanted);
+    }
+    Ok(())
+}
+
+#[test]
+fn input_is_read(rt: HostRuntime) -> Result<(), Fail> {
+    let texts: [(&[u8], Result<&[u16], InputFault>); 16] = [
+        (b"", Ok(&[])),
+        (b" \t\r\n", Ok(&[])),
+        (b"5 6", Ok(&[5, 6])),
+        (b"\n7\r\n\t65535 0", Ok(&[7, 65535, 0])),
+        (b"0000000000000000000000065535", Ok(&[65535])),
+        (b"5 65536", Err(InputFault::BadWord { at: 2 })),
+        (
+            b"  99999999999999999999",
+            Err(InputFault::BadWord { at: 2 }),
+        ),
+        (b"+1", Err(InputFault::BadWord { at: 0 })),
+        (b"1 -1 x", Err(InputFault::BadWord { at: 2 })),
+        (b"1 2x", Err(InputFault::BadWord { at: 2 })),
+        (b"0x10", Err(InputFault::BadWord { at: 0 })),
+        (b"1,2", Err(InputFault::BadWord { at: 0 })),
+        (b"1\x0b2", Err(InputFault::BadWord { at: 0 })),
+        (b"1\x0c2", Err(InputFault::BadWord { at: 0 })),
+        (b"1\n \xff", Err(InputFault::BadWord { at: 3 })),
+        (b"1 2\0", Err(InputFault::BadWord { at: 2 })),
+    ];
+    for (text, want) in texts {
+        match read_input(rt.alloc(), text) {
+            Ok(read) => assert_eq!(rt; Ok(read.as_slice()), want),
+            Err(fault) => assert_eq!(rt; Err(fault), want),
+        }
     }
     Ok(())
 }

@@ -1,11 +1,11 @@
 use Rattle.std.specs.Prelude.{string_bytes}
-use Rattle.commands.specs.Paths.{named}
+use Rattle.commands.specs.InCode.{named}
 use Rattle.commands.proofs.Writing.{written}
 use Rattle.commands.proofs.job.build.Goals as goal
 
 pub returns-in-Ok : goal.returns-in-Ok
 returns-in-Ok g c =
-    written (named c.args.paths.now)
+    written (named c.args.job.now)
     (record { files = g.S.Store.files c.args.store.now; reads = g.S.Store.read_faults c.args.store.now; writes = g.S.Store.write_faults c.args.store.now; bad = g.S.Store.bad_name c.args.store.now })
     (record { files = g.S.Store.files c.ready.new.store; reads = g.S.Store.read_faults c.ready.new.store; writes = g.S.Store.write_faults c.ready.new.store; bad = g.S.Store.bad_name c.ready.new.store })
     (record { files = g.S.Store.files c.write.new.store; reads = g.S.Store.read_faults c.write.new.store; writes = g.S.Store.write_faults c.write.new.store; bad = g.S.Store.bad_name c.write.new.store })
