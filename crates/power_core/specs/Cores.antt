@@ -10,7 +10,7 @@ use Rattle.power_core.specs.declared.device.Event.{Event as Asked}
 use Rattle.power_core.specs.declared.device.Event.TheVariants.{Go as AskGo, Wake as AskWake}
 use Rattle.power_core.specs.declared.device.Seen.{Seen}
 use Rattle.power_core.specs.declared.device.Seen.TheVariants.{Done, Woke, NotNow}
-use Rattle.power_core.specs.Runs.{Event, Go, Wake, Trail, start, Run}
+use Rattle.power_core.specs.Runs.{Event, Go, Wake, Trail, start, Step, Run}
 
 -- the numbers of refills and of instructions executed, and what the instructions cost
 pub record Counts : Type 0 where
@@ -134,3 +134,22 @@ Begins first core = (b : Board) (input : List ℕ) → Shows b input first [] []
 abbrev pub GoesOn : Board → List ℕ → Asked → Seen → CoreView → CoreView → Type 0
 GoesOn b input asked told old new = (first : State) (events : List Event) (put : List ℕ)
     → Shows b input first events put old → Shows b input first (events ++ happened asked told) (put ++ words_told told) new
+
+-- ---- One step of any run that stands where the core does
+
+abbrev pub WasPossible : Seen → Type 0
+WasPossible (Done did) = Unit {0}
+WasPossible (Woke cold) = Unit {0}
+WasPossible NotNow = ⊥
+
+-- A step by this event leads from the old trail to one that stands where the core does, with the words that were told.
+pub record StepsTo (b : Board) (input : List ℕ) (asked : Asked) (told : Seen) (old : Trail) (core : CoreView) : Type 0 where
+  pub trail : Trail
+  pub step : Step b input old (event_of asked) trail
+  pub state : trail.state ≡ state_of core.machine
+  pub words : trail.put ≡ old.put ++ words_told told
+  pub counts : counts_of trail ≡ core.counts
+
+-- from each trail that stands where the old core does, an event that was possible is a step
+abbrev pub StepsOn : Board → List ℕ → Asked → Seen → CoreView → CoreView → Type 0
+StepsOn b input asked told old new = (t : Trail) → t.state ≡ state_of old.machine → counts_of t ≡ old.counts → WasPossible told → StepsTo b input asked told t new

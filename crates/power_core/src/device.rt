@@ -5,7 +5,7 @@ ghost use Rattle.msp430_machine.specs.State.{Awake};
 ghost use Rattle.msp430_machine.specs.Steps.{stepped};
 ghost use Rattle.msp430_machine.specs.Views.{state_of};
 ghost use Rattle.msp430_machine.specs.Wakes.{CanWake, Wakes};
-ghost use Rattle.power_core.specs.Cores.{no_counts, seen, left, is_executed as is_executed_lem, counted_if, counted, Begins, GoesOn};
+ghost use Rattle.power_core.specs.Cores.{no_counts, seen, left, is_executed as is_executed_lem, counted_if, counted, Begins, GoesOn, StepsOn};
 
 use board_table::Board;
 use msp430_machine::{Did, Machine, Phase, Refill};
@@ -100,6 +100,7 @@ impl Core {
         ensures counts { self.new.counts ≡ counted result (stepped b.now input.now (state_of self.old.machine)).spent self.old.counts }
         ensures unchanged { result ≡ Seen.NotNow → self.new ≡ self.old }
         ensures goes_on { GoesOn b.now input.now e result self.old self.new }
+        ensures steps_on { StepsOn b.now input.now e result self.old self.new }
     {
         match e {
             Event::Go => self.go(b, input),

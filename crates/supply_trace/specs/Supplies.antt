@@ -16,10 +16,11 @@ TakesRow (Row row) before now = before ≡ row ∷ now
 TakesRow Ended before now = (before ≡ []) × (now ≡ [])
 TakesRow Failed before now = KeepsSome before now
 
--- A fault is answered only where the count rose; the count never falls.
+-- A fault is answered only where the count rose, and nothing else raises it.
 abbrev pub CountsFault : Given → ℕ → ℕ → Type 0
 CountsFault Failed before now = (before ≤ now) × Rose before now
-CountsFault _ before now = before ≤ now
+CountsFault (Row row) before now = now ≡ before
+CountsFault Ended before now = now ≡ before
 
 -- the rows left, the numbers of the refills that fail, and how many were asked for and have failed
 pub record FailingState : Type 0 where

@@ -1,0 +1,5 @@
+pub mod Phases
+pub mod Reaching
+pub mod Boxes
+pub mod Turning
+pub mod Telling
