@@ -5,7 +5,7 @@ use Rattle.c_parse.specs.declared.raw.Raw.{Raw}
 use Rattle.c_parse.specs.declared.form.Wait.{Wait}
 use Rattle.c_parse.specs.Grammar.{token, Word, Nested, nested_at, ahead}
 use Rattle.c_parse.specs.Machine.{want, level, State, at, turn, Move, turns, shift, Moves, stay}
-use Rattle.c_parse.specs.Steps.{Stuck, Reaches, Passes_over, Refuses, RefusesAt, Steps, class_wanted, Lacks, Ends, Turns}
+use Rattle.c_parse.specs.Steps.{Stuck, Reaches, Passes_over, RefusesAt, Steps, class_wanted, Lacks, Ends, Turns}
 use Rattle.c_parse.specs.Turning.{as_word}
 use Rattle.c_parse.proofs.Complete.{then, one}
 use Rattle.c_parse.proofs.Effort.{effort, less_turn}

@@ -5,7 +5,7 @@ use Rattle.std.proofs.lemmas.List.Elements.{All-head, All-tail}
 use Rattle.c_parse.specs.declared.class.Class.{Class}
 use Rattle.c_parse.specs.declared.raw.Raw.{Raw}
 use Rattle.c_parse.specs.declared.form.Wait.{Wait}
-use Rattle.c_parse.specs.Grammar.{program, Form, token, sub, Word, Nested, word_at, nested_at, bare, IsText, IsReal, Begins, IsOpen, StandsAt, ends_in_bracket, IsTooDeep, in_text, in_bracket, ahead}
+use Rattle.c_parse.specs.Grammar.{program, Form, token, sub, Word, Nested, word_at, nested_at, bare, IsText, IsReal, Begins, IsOpen, StandsAt, ends_in_bracket, IsTooDeep, in_text, in_bracket, one_operator_more, ahead}
 use Rattle.c_parse.specs.Machine.{want, undecided, opened, begins_type, tell_opened, turn_told, State, at, turn, level, Move, turns, shift, Moves, stay, go}
 use Rattle.c_parse.specs.Steps.{Stuck, Reaches, Refuses, Stands}
 use Rattle.c_parse.proofs.Checks.{same_class, same_self}
@@ -15,6 +15,7 @@ use Rattle.c_parse.proofs.Whole.{good_start, goes_onward, ended_stuck, read_leve
 use Rattle.c_parse.proofs.Depth.{calm, Ready, inside, unopened, calmly, ready_turn, Inside, inside_of, inside_turn}
 use Rattle.c_parse.proofs.Bracketed.{IsReady, spaced, spaced_turn, Kept, kept_start, kept_moves, after, after_all}
 use Rattle.c_parse.proofs.Begun.{Bounded, low, due, bounded_turn, same_is, not_stuck}
+use Rattle.c_parse.proofs.Inside.{bare_append}
 
 shrinks : (c : List Wait) (vs : List (List Raw)) (ts : List Nested) (c2 : List Wait) (vs2 : List (List Raw)) (us : List Nested) → Moves c vs ts c2 vs2 us → length us ≤ length ts
 shrinks _ _ _ _ _ _ (stay c vs ts) = omega arith
@@ -81,7 +82,7 @@ next_level n _ _ _ _ _ _ r (go _ _ _ _ _ _ c3 vs3 ts3 (turns c vs c2 vs2 ts is) 
 next_level n _ _ _ _ _ _ r (go _ _ _ _ _ _ c3 vs3 ts3 (shift class word c top vs ts is lies) others) e =
     record { first = word; rest = ts; is = refl; lies = lies ∙ sym (shift_level n class c (want (token class) ∷ c) r refl) }
 
-kept_so : (front : List Word) (c : List Wait) (vs : List (List Raw)) → Stands front c vs → Kept (ends_in_bracket front) c
+pub kept_so : (front : List Word) (c : List Wait) (vs : List (List Raw)) → Stands front c vs → Kept (ends_in_bracket front) c
 kept_so front c vs s =
     let k : Kept (after false (s.text ++ [])) c = kept_moves false _ _ _ _ _ _ (s.moves []) refl kept_start in
     let P : Bool → Type 0 = λ b. Kept b c in
@@ -131,7 +132,7 @@ deep_shift front word c vs (want (token other) ∷ c2) (top ∷ vs2) s reaches g
     in_text (level c2) lies (record { front = s.text; are = s.are; begins = begins_so (s.text ++ n ∷ []) c2 ((top ++ word.leaf ∷ []) ∷ vs2) over })
 deep_shift front word c vs _ vs2 s reaches good is lies = cc
 
-not_open : (front : List Word) (word : Word) (c : List Wait) (vs : List (List Raw)) (c2 : List Wait) (vs2 : List (List Raw)) → Stands front c vs → Reaches word c vs c2 vs2 → Halts word c2 vs2 → IsOpen (front ++ word ∷ []) → ⊥
+pub not_open : (front : List Word) (word : Word) (c : List Wait) (vs : List (List Raw)) (c2 : List Wait) (vs2 : List (List Raw)) → Stands front c vs → Reaches word c vs c2 vs2 → Halts word c2 vs2 → IsOpen (front ++ word ∷ []) → ⊥
 not_open front word c vs c2 vs2 s reaches halts was =
     let p : Parting was.front front word = part front word was.front was.are in
     not_so front word c vs c2 vs2 s reaches was.front was.begins p (λ rest. halts p.last.level rest)
@@ -191,10 +192,10 @@ deep_where false front word c vs s r is lies =
 pub deep_refusal : (front : List Word) (word : Word) (c : List Wait) (vs : List (List Raw)) (s : Stands front c vs) (r : Refuses word c vs) → 64 < level r.waits → IsTooDeep front word
 deep_refusal front word c vs s r lies = deep_where (wants_it word.class r.waits) front word c vs s r refl lies
 
-not_at : (front : List Word) (word : Word) (c : List Wait) (vs : List (List Raw)) (s : Stands front c vs) (r : Refuses word c vs) → level r.waits ≤ 64 → Halts word r.waits r.builds
+pub not_at : (front : List Word) (word : Word) (c : List Wait) (vs : List (List Raw)) (s : Stands front c vs) (r : Refuses word c vs) → level r.waits ≤ 64 → Halts word r.waits r.builds
 not_at front word c vs s r le depth rest d ws us move = shallow_halts word r.waits r.builds (nested_at depth word ∷ rest) d ws us depth rest move refl le r.stuck
 
-stands_where : (before : List Word) (level_is : ℕ) (word : Word) → StandsAt level_is before word → IsOpen (before ++ word ∷ [])
+pub stands_where : (before : List Word) (level_is : ℕ) (word : Word) → StandsAt level_is before word → IsOpen (before ++ word ∷ [])
 stands_where before level_is word st = record { front = st.front ++ nested_at level_is word ∷ []; are = bare_last st.front (nested_at level_is word) ∙ ap (λ t. t ++ word ∷ []) st.are; begins = st.begins }
   where
     bare_last : (a : List Nested) (n : Nested) → bare (a ++ n ∷ []) ≡ bare a ++ word_at n ∷ []
@@ -213,7 +214,7 @@ other_level front c vs s n level_is other r st =
     let first_is : next.first ≡ nested_at level_is other = let q : nested_at level_is other ∷ st.begins.more ≡ next.first ∷ next.rest = next.is in cc in
     sym (ap (λ x. x.level) first_is) ∙ next.lies
 
-flat_bracket : (b : Bool) (front : List Word) (word : Word) (c : List Wait) (vs : List (List Raw)) (s : Stands front c vs) (r : Refuses word c vs) (level_is : ℕ) (other : Word) → level r.waits ≤ 64 → 64 < level_is → b ≡ true → StandsAt level_is front other → Kept b c → ⊥
+pub flat_bracket : (b : Bool) (front : List Word) (word : Word) (c : List Wait) (vs : List (List Raw)) (s : Stands front c vs) (r : Refuses word c vs) (level_is : ℕ) (other : Word) → level r.waits ≤ 64 → 64 < level_is → b ≡ true → StandsAt level_is front other → Kept b c → ⊥
 flat_bracket b front word c vs s r level_is other le lies is st k =
     let ready : IsReady c = k.ready is in
     let P : List Wait → Type 0 = λ w. Ready w ready.next in
@@ -222,7 +223,12 @@ flat_bracket b front word c vs s r level_is other le lies is st k =
     let same2 : level_is ≡ ready.next = other_level front c vs s ready.next level_is other ready.ready st in
     absurd (omega arith)
 
+pub over_open : (front : List Word) (word : Word) (before : List Nested) (last : Nested) → Begins (before ++ last ∷ []) → bare before ≡ front → word_at last ≡ word → IsOpen (front ++ word ∷ [])
+over_open front word before last b are is =
+    record { front = before ++ last ∷ []; are = bare_append before (last ∷ []) ∙ ap (λ t. t ++ word_at last ∷ []) are ∙ ap (λ w. front ++ w ∷ []) is; begins = b }
+
 -- Where no more are open it isn't.
 pub flat_refusal : (front : List Word) (word : Word) (c : List Wait) (vs : List (List Raw)) (s : Stands front c vs) (r : Refuses word c vs) → level r.waits ≤ 64 → IsTooDeep front word → ⊥
 flat_refusal front word c vs s r le (in_text level_is lies st) = not_open front word c vs r.waits r.builds s r.reaches (not_at front word c vs s r le) (stands_where front level_is word st)
 flat_refusal front word c vs s r le (in_bracket level_is other real lies shut bracket st) = flat_bracket (ends_in_bracket front) front word c vs s r level_is other le lies bracket st (kept_so front c vs s)
+flat_refusal front word c vs s r le (one_operator_more before last b are is many) = not_open front word c vs r.waits r.builds s r.reaches (not_at front word c vs s r le) (over_open front word before last b are is)

@@ -16,6 +16,8 @@ use Rattle.c_parse.specs.Steps.{Stuck, Reaches, Passes_over, Refuses, Stands, La
 use Rattle.c_parse.proofs.Sound.{ended, back_all, sound}
 use Rattle.c_parse.proofs.Viable.{Good, good_moves, Completion, completable}
 use Rattle.c_parse.proofs.Complete.{then, read_whole}
+use Rattle.c_parse.specs.Tally.{IsSparse}
+use Rattle.c_parse.proofs.Sparse.{few_in}
 
 pub record Same (c : List Wait) (vs : List (List Raw)) (ts : List Nested) (c2 : List Wait) (vs2 : List (List Raw)) (ts2 : List Nested) : Type 0 where
   pub waits : c ≡ c2
@@ -135,8 +137,10 @@ begins_so text c vs moves =
     let P : List Raw → Type 0 = λ r. Derives 0 (sub program) r (text ++ end.rest) None in
     record { more = end.rest; real = end.real; raw = single.raw; text = subst P single.is derives }
 
-pub is_fit : (front : List Word) (c : List Wait) (vs : List (List Raw)) → Stands front c vs → IsFit front
-is_fit front c vs s = record { front = s.text; are = s.are; shallow = s.shallow; begins = begins_so s.text c vs s.moves }
+pub is_fit : (front : List Word) (c : List Wait) (vs : List (List Raw)) → Stands front c vs → IsSparse front → IsFit front
+is_fit front c vs s sparse =
+    let b : Begins s.text = begins_so s.text c vs s.moves in
+    record { front = s.text; are = s.are; shallow = s.shallow; begins = b; few = few_in s.text b front s.are sparse }
 
 pub is_open : (front : List Word) (c : List Wait) (vs : List (List Raw)) → Stands front c vs → IsOpen front
 is_open front c vs s = record { front = s.text; are = s.are; begins = begins_so s.text c vs s.moves }
@@ -233,7 +237,7 @@ stands_on front word c vs c2 vs2 s over = record {
     way : (rest : List Nested) → Moves (want (sub program) ∷ []) ([] ∷ []) ((s.text ++ nested_at over.depth word ∷ []) ++ rest) c2 vs2 rest
     way rest = rw (append_assoc s.text (nested_at over.depth word ∷ []) rest) (then (s.moves (nested_at over.depth word ∷ rest)) (over.moves rest))
 
-next_front : (ts : List Word) (i : ℕ) (d : Word) → i < length ts → take (i + 1) ts ≡ take i ts ++ get_or ts i d ∷ []
+pub next_front : (ts : List Word) (i : ℕ) (d : Word) → i < length ts → take (i + 1) ts ≡ take i ts ++ get_or ts i d ∷ []
 next_front ts i d lt = rw (add-one, take-suc ts i d lt) refl
 
 pub stands_next : (ts : List Word) (i : ℕ) (d word : Word) (c : List Wait) (vs : List (List Raw)) (c2 : List Wait) (vs2 : List (List Raw)) → i < length ts → get_or ts i d ≡ word
@@ -243,10 +247,10 @@ stands_next ts i d word c vs c2 vs2 lt is stands over =
     subst P (sym (next_front ts i d lt ∙ ap (λ k. take i ts ++ k ∷ []) is)) (stands_on (take i ts) word c vs c2 vs2 stands over)
 
 pub first_fault : (ts : List Word) (i : ℕ) (d word : Word) (c : List Wait) (vs : List (List Raw)) → i < length ts → get_or ts i d ≡ word
-    → Stands (take i ts) c vs → Refuses word c vs → FirstFault ts i
-first_fault ts i d word c vs lt is stands r = record {
+    → Stands (take i ts) c vs → IsSparse (take i ts) → Refuses word c vs → FirstFault ts i
+first_fault ts i d word c vs lt is stands sparse r = record {
   within = lt;
-  before = is_fit (take i ts) c vs stands;
+  before = is_fit (take i ts) c vs stands sparse;
   stops = λ was. refused (take i ts) word c vs stands r (subst IsFit (next_front ts i d lt ∙ ap (λ k. take i ts ++ k ∷ []) is) was);
 }
 
@@ -282,9 +286,9 @@ whole_tree tokens c vs c2 vs2 s ends =
     let S : List Nested → Type 0 = λ t. IsText t single.raw in
     record { raw = single.raw; builds = list.is ∙ ap (λ r. r ∷ []) single.is; derives = record { text = s.text; are = s.are; derives = subst S (append-nil s.text) (subst R single.is derives) } }
 
-pub ends_early : (tokens : List Word) (c : List Wait) (vs : List (List Raw)) → Stands tokens c vs → Lacks c vs → EndsEarly tokens
-ends_early tokens c vs stands lacks = record {
-  begins = is_fit tokens c vs stands;
+pub ends_early : (tokens : List Word) (c : List Wait) (vs : List (List Raw)) → Stands tokens c vs → IsSparse tokens → Lacks c vs → EndsEarly tokens
+ends_early tokens c vs stands sparse lacks = record {
+  begins = is_fit tokens c vs stands sparse;
   not_whole = not_whole tokens c vs lacks.next lacks.waits lacks.builds stands lacks.moves lacks.stuck;
 }
 

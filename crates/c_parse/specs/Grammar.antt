@@ -1,5 +1,5 @@
 -- The grammar of the C profile: for each form its alternatives, and the trees that they give.
-use Rattle.std.specs.Prelude.{◌≡◌, ℕ, List, [], ◌∷◌, ◌++◌, Option, Some, None, Bool, true, false, not, length, map, take, ◌<◌, ◌≤◌, ◌+◌, All}
+use Rattle.std.specs.Prelude.{◌≡◌, ℕ, List, [], ◌∷◌, ◌++◌, Option, Some, None, Bool, true, false, not, length, map, take, slice_index, ◌<◌, ◌≤◌, ◌+◌, All}
 use Rattle.c_parse.specs.declared.class.Class.{Class}
 use Rattle.c_parse.specs.declared.class.Class.TheVariants.{Name, Number, Plus, Minus, Star, Divide, Shift, Relation, Equality, Ampersand, Caret, Bar, AndAnd, BarBar, Complement, Question, Colon, Semicolon, Comma, Open, Close, OpenIndex, CloseIndex, OpenBrace, CloseBrace, Equals, Compound, Increment, Static, Const, Void, Char, Sign, Short, Int, Fixed, Break, Continue, Return, If, Else, While, Do, For, Switch, Case, Default}
 use Rattle.c_parse.specs.declared.raw.RawRule.{RawRule}
@@ -352,6 +352,62 @@ mutual
         → Derives depth symbol raws front (ahead rest next) → DeriveAll depth symbols parts rest next → all ≡ raws ++ parts → words ≡ front ++ rest
         → DeriveAll depth (symbol ∷ symbols) all words next
 
+-- A token that stands in no expression; or an expression that is part of no other, with whether each of its tokens is a binary operator.
+pub data Piece : Type 0 where
+  apart : Piece
+  whole : List Bool → Piece
+
+-- The tokens that stand in such a form itself are binary operators.
+abbrev pub holds_operators : Form → Bool
+holds_operators operations = true
+holds_operators _ = false
+
+abbrev pub is_expression : Form → Bool
+is_expression expr = true
+is_expression _ = false
+
+-- Which tokens are binary operators, where the symbol stands in such a form.
+abbrev mutual
+  pub marks : Form → (depth : ℕ) (symbol : Symbol) (raws : List Raw) (words : List Nested) (next : Option Class) → Derives depth symbol raws words next → List Bool
+  marks form _ _ _ _ _ (leaf depth class word next is lies) = holds_operators form ∷ []
+  marks outer _ _ _ _ _ (node depth form symbols parts raws words next one ok made all) = marks_all form (depth + weight form) symbols parts words next all
+
+  pub marks_all : Form → (depth : ℕ) (symbols : List Symbol) (raws : List Raw) (words : List Nested) (next : Option Class) → DeriveAll depth symbols raws words next → List Bool
+  marks_all form _ _ _ _ _ (none depth next) = []
+  marks_all form _ _ _ _ _ (more depth symbol symbols raws parts all front rest words next first others e1 e2) =
+      marks form depth symbol raws front (ahead rest next) first ++ marks_all form depth symbols parts rest next others
+
+abbrev pub piece_of : Bool → List Bool → List Piece → List Piece
+piece_of true marked parts = whole marked ∷ []
+piece_of false marked parts = parts
+
+-- The expressions that are part of no other, and the tokens round them.
+abbrev mutual
+  pub pieces : (depth : ℕ) (symbol : Symbol) (raws : List Raw) (words : List Nested) (next : Option Class) → Derives depth symbol raws words next → List Piece
+  pieces _ _ _ _ _ (leaf depth class word next is lies) = apart ∷ []
+  pieces _ _ _ _ _ (node depth form symbols parts raws words next one ok made all) =
+      piece_of (is_expression form) (marks_all form (depth + weight form) symbols parts words next all) (pieces_all (depth + weight form) symbols parts words next all)
+
+  pub pieces_all : (depth : ℕ) (symbols : List Symbol) (raws : List Raw) (words : List Nested) (next : Option Class) → DeriveAll depth symbols raws words next → List Piece
+  pieces_all _ _ _ _ _ (none depth next) = []
+  pieces_all _ _ _ _ _ (more depth symbol symbols raws parts all front rest words next first others e1 e2) =
+      pieces depth symbol raws front (ahead rest next) first ++ pieces_all depth symbols parts rest next others
+
+abbrev pub one : Bool → ℕ
+one true = 1
+one false = 0
+
+-- how many of them are operators, up to each
+abbrev pub counted_from : ℕ → List Bool → List ℕ
+counted_from n [] = []
+counted_from n (is_operator ∷ others) = (n + one is_operator) ∷ counted_from (n + one is_operator) others
+
+-- At each token the number of binary operators, up to it, of the expression that holds it and is part of no other; 0 where there is none.
+abbrev pub operator_counts : List Piece → List ℕ
+operator_counts [] = []
+operator_counts (apart ∷ others) = 0 ∷ operator_counts others
+operator_counts (whole marked ∷ others) = counted_from 0 marked ++ operator_counts others
+
 -- the token without its level, and with one
 abbrev pub word_at : Nested → Word
 word_at nested = record { class = nested.class; leaf = nested.leaf }
@@ -365,6 +421,9 @@ bare text = map word_at text
 -- The tokens at these levels are a text of the grammar, and this is its tree.
 abbrev pub IsText : List Nested → Raw → Type 0
 IsText text raw = Derives 0 (sub program) (raw ∷ []) text None
+
+abbrev pub counts_in : (text : List Nested) (raw : Raw) → IsText text raw → List ℕ
+counts_in text raw derives = operator_counts (pieces 0 (sub program) (raw ∷ []) text None derives)
 
 -- a leaf that is a token of the word's class
 abbrev pub IsReal : Nested → Type 0
@@ -399,14 +458,15 @@ pub record StandsAt (level : ℕ) (before : List Word) (word : Word) : Type 0 wh
 abbrev pub IsShallow : Nested → Type 0
 IsShallow nested = nested.level ≤ 64
 
--- Some text of the grammar begins with these words, none of which is nested too deep there.
+-- Some text of the grammar begins with these words, none of which is nested too deep there or is one binary operator too many.
 pub record IsFit (words : List Word) : Type 0 where
   pub front : List Nested
   pub are : bare front ≡ words
   pub shallow : All IsShallow front
   pub begins : Begins front
+  pub few : (i : ℕ) → i < length words → slice_index (counts_in (front ++ begins.more) begins.raw begins.text) i ≤ 1000
 
--- The fault stands at the first word with which the words are nested too deep, or begin no text of the grammar.
+-- The fault stands at the first word with which the words are nested too deep, have too many operators, or begin no text of the grammar.
 pub record FirstFault (words : List Word) (at : ℕ) : Type 0 where
   pub within : at < length words
   pub before : IsFit (take at words)
@@ -429,8 +489,11 @@ ends_in_bracket [] = false
 ends_in_bracket (last ∷ []) = is_bracket last.class
 ends_in_bracket (first ∷ second ∷ rest) = ends_in_bracket (second ∷ rest)
 
--- This word is nested too deep behind these: it stands deeper than level 64 in some text of the grammar, or it fits no text behind them and stands
+-- This word is nested too deep behind these: it stands deeper than level 64 in some text of the grammar, or it is the 1,001st binary operator of an
+-- expression there that is part of no other (where it is the first fault), or it fits no text behind them and stands
 -- right behind a (, [ or ? in which tokens are nested too deep. What would begin with a word doesn't count where it fits nothing.
 pub data IsTooDeep (before : List Word) (word : Word) : Type 0 where
   in_text : (level : ℕ) → 64 < level → StandsAt level before word → IsTooDeep before word
   in_bracket : (level : ℕ) (other : Word) → Genuine other → 64 < level → (IsOpen (before ++ word ∷ []) → ⊥) → ends_in_bracket before ≡ true → StandsAt level before other → IsTooDeep before word
+  one_operator_more : (front : List Nested) (last : Nested) (b : Begins (front ++ last ∷ [])) → bare front ≡ before → word_at last ≡ word
+      → 1000 < slice_index (counts_in ((front ++ last ∷ []) ++ b.more) b.raw b.text) (length front) → IsTooDeep before word

@@ -6,6 +6,8 @@ pub mod Grouping
 pub mod Machine
 pub mod Pending
 pub mod Precedence
+pub mod Profile
 pub mod Steps
+pub mod Tally
 pub mod Turning
 pub mod Words

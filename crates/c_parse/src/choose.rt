@@ -1,9 +1,16 @@
 ghost use Rattle.std.specs.Prelude.{◌≡◌, ◌∷◌, true, OnOk, IfOk, reverse};
-ghost use Rattle.c_parse.specs.Machine.{wants, choose, begins_type, begins_declaration, begins_unary, begins_action, is_chosen, choose_statement};
+ghost use Rattle.c_parse.specs.Machine.{wants, choose};
 ghost use Rattle.c_parse.specs.Grammar.{switched};
 ghost use Rattle.c_parse.specs.Steps.{Unfolds, symbols_of};
 ghost use Rattle.c_parse.specs.declared.form.Form.{Form};
 
+use crate::begins::{
+    begins_action, begins_declaration, begins_statement, begins_type, begins_unary,
+};
+use crate::choose_type::{
+    choose_after_char, choose_after_int, choose_after_short, choose_after_short_int,
+    choose_after_sign, choose_after_sign_int, choose_after_sign_short, choose_type_name,
+};
 use crate::class::Class;
 use crate::form::{Form, Symbol, Wait, Within};
 use crate::no_memory::NoMemory;
@@ -20,72 +27,6 @@ pub fn want(waits: &mut Waits, symbols: &[Symbol]) -> Result<bool, NoMemory>
         waits.push(Wait::Want(symbols[left]))?;
     }
     Ok(true)
-}
-
-pub fn begins_type(look: Option<Class>) -> bool
-    ensures { result ≡ begins_type look }
-{
-    matches!(
-        look,
-        Some(Class::Char | Class::Sign | Class::Short | Class::Int | Class::Fixed)
-    )
-}
-
-fn begins_declaration(look: Option<Class>) -> bool
-    ensures { result ≡ begins_declaration look }
-{
-    match look {
-        Some(Class::Const) => true,
-        _ => begins_type(look),
-    }
-}
-
-fn begins_unary(look: Option<Class>) -> bool
-    ensures { result ≡ begins_unary look }
-{
-    matches!(
-        look,
-        Some(
-            Class::Name
-                | Class::Number
-                | Class::Plus
-                | Class::Minus
-                | Class::Complement
-                | Class::Open
-        )
-    )
-}
-
-fn begins_action(look: Option<Class>) -> bool
-    ensures { result ≡ begins_action look }
-{
-    match look {
-        Some(Class::Increment) => true,
-        _ => begins_unary(look),
-    }
-}
-
-fn begins_statement(within: Within, look: Option<Class>) -> bool
-    ensures { result ≡ is_chosen (choose_statement within look) }
-{
-    match (within, look) {
-        (Within::Switch | Within::Loop, Some(Class::Break)) => true,
-        (Within::Loop, Some(Class::Continue)) => true,
-        (
-            _,
-            Some(
-                Class::OpenBrace
-                | Class::Semicolon
-                | Class::Return
-                | Class::If
-                | Class::While
-                | Class::Do
-                | Class::For
-                | Class::Switch,
-            ),
-        ) => true,
-        _ => begins_action(look),
-    }
 }
 
 fn switched(within: Within) -> Within
@@ -486,50 +427,6 @@ fn choose_primary(waits: &mut Waits, look: Option<Class>) -> Result<bool, NoMemo
     }
 }
 
-fn choose_type_name(waits: &mut Waits, look: Option<Class>) -> Result<bool, NoMemory>
-    ensures { IfOk result (λ done. Unfolds (symbols_of (choose Form.TypeName look) Form.TypeName) done waits.old.stack.items waits.new.stack.items) }
-{
-    match look {
-        Some(Class::Fixed) => want(waits, &[Token(Class::Fixed)]),
-        Some(Class::Char) => want(waits, &[Token(Class::Char), Sub(Form::AfterChar)]),
-        Some(Class::Sign) => want(waits, &[Token(Class::Sign), Sub(Form::AfterSign)]),
-        Some(Class::Short) => want(waits, &[Token(Class::Short), Sub(Form::AfterShort)]),
-        Some(Class::Int) => want(waits, &[Token(Class::Int), Sub(Form::AfterInt)]),
-        _ => Ok(false),
-    }
-}
-
-fn choose_after_sign(waits: &mut Waits, look: Option<Class>) -> Result<bool, NoMemory>
-    ensures { IfOk result (λ done. Unfolds (symbols_of (choose Form.AfterSign look) Form.AfterSign) done waits.old.stack.items waits.new.stack.items) }
-{
-    match look {
-        Some(Class::Char) => want(waits, &[Token(Class::Char)]),
-        Some(Class::Short) => want(waits, &[Token(Class::Short), Sub(Form::AfterSignShort)]),
-        Some(Class::Int) => want(waits, &[Token(Class::Int), Sub(Form::AfterSignInt)]),
-        _ => Ok(true),
-    }
-}
-
-fn choose_after_short(waits: &mut Waits, look: Option<Class>) -> Result<bool, NoMemory>
-    ensures { IfOk result (λ done. Unfolds (symbols_of (choose Form.AfterShort look) Form.AfterShort) done waits.old.stack.items waits.new.stack.items) }
-{
-    match look {
-        Some(Class::Sign) => want(waits, &[Token(Class::Sign), Sub(Form::AfterSignShort)]),
-        Some(Class::Int) => want(waits, &[Token(Class::Int), Sub(Form::AfterShortInt)]),
-        _ => Ok(true),
-    }
-}
-
-fn choose_after_int(waits: &mut Waits, look: Option<Class>) -> Result<bool, NoMemory>
-    ensures { IfOk result (λ done. Unfolds (symbols_of (choose Form.AfterInt look) Form.AfterInt) done waits.old.stack.items waits.new.stack.items) }
-{
-    match look {
-        Some(Class::Sign) => want(waits, &[Token(Class::Sign), Sub(Form::AfterSignInt)]),
-        Some(Class::Short) => want(waits, &[Token(Class::Short), Sub(Form::AfterShortInt)]),
-        _ => Ok(true),
-    }
-}
-
 fn choose_action(waits: &mut Waits, look: Option<Class>) -> Result<bool, NoMemory>
     ensures { IfOk result (λ done. Unfolds (symbols_of (choose Form.Action look) Form.Action) done waits.old.stack.items waits.new.stack.items) }
 {
@@ -637,42 +534,6 @@ fn choose_choice(waits: &mut Waits, look: Option<Class>) -> Result<bool, NoMemor
 {
     match look {
         Some(Class::Question) => want(waits, &[Token(Class::Question), Sub(Form::Chosen)]),
-        _ => Ok(true),
-    }
-}
-
-fn choose_after_char(waits: &mut Waits, look: Option<Class>) -> Result<bool, NoMemory>
-    ensures { IfOk result (λ done. Unfolds (symbols_of (choose Form.AfterChar look) Form.AfterChar) done waits.old.stack.items waits.new.stack.items) }
-{
-    match look {
-        Some(Class::Sign) => want(waits, &[Token(Class::Sign)]),
-        _ => Ok(true),
-    }
-}
-
-fn choose_after_short_int(waits: &mut Waits, look: Option<Class>) -> Result<bool, NoMemory>
-    ensures { IfOk result (λ done. Unfolds (symbols_of (choose Form.AfterShortInt look) Form.AfterShortInt) done waits.old.stack.items waits.new.stack.items) }
-{
-    match look {
-        Some(Class::Sign) => want(waits, &[Token(Class::Sign)]),
-        _ => Ok(true),
-    }
-}
-
-fn choose_after_sign_short(waits: &mut Waits, look: Option<Class>) -> Result<bool, NoMemory>
-    ensures { IfOk result (λ done. Unfolds (symbols_of (choose Form.AfterSignShort look) Form.AfterSignShort) done waits.old.stack.items waits.new.stack.items) }
-{
-    match look {
-        Some(Class::Int) => want(waits, &[Token(Class::Int)]),
-        _ => Ok(true),
-    }
-}
-
-fn choose_after_sign_int(waits: &mut Waits, look: Option<Class>) -> Result<bool, NoMemory>
-    ensures { IfOk result (λ done. Unfolds (symbols_of (choose Form.AfterSignInt look) Form.AfterSignInt) done waits.old.stack.items waits.new.stack.items) }
-{
-    match look {
-        Some(Class::Short) => want(waits, &[Token(Class::Short)]),
         _ => Ok(true),
     }
 }

@@ -8,7 +8,8 @@ ghost use Rattle.c_parse.specs.declared.form.Form.{Form};
 ghost use Rattle.c_parse.specs.declared.form.Symbol.{Symbol};
 ghost use Rattle.c_parse.specs.declared.form.Wait.{Wait};
 
-use crate::choose::{begins_type, choose, want};
+use crate::begins::begins_type;
+use crate::choose::{choose, want};
 use crate::class::Class;
 use crate::endings::{ends_in_jump, have_names};
 use crate::form::{Delay, Form, Late, Symbol, Wait, Within};

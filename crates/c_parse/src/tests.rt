@@ -148,6 +148,97 @@ const FAULTS: [(&[u8], &str); 14] = [
     (b"void f(void) { return x", "Unexpected at 1:24"),
 ];
 
+/// A text and the fault at a token that the profile leaves out of C, or at one beside it.
+const LEFT_OUT: [(&[u8], &str); 26] = [
+    (
+        b"int main(void){int a=1;int b=2;out(a+++b);return 0;}",
+        "NotInProfile at 1:37",
+    ),
+    (b"long x;", "NotInProfile at 1:1"),
+    (b"int f(void) = 1;", "NotInProfile at 1:13"),
+    (b"void *f(void);", "NotInProfile at 1:6"),
+    (b"int f(int *p);", "NotInProfile at 1:11"),
+    (b"int f(void *p);", "NotInProfile at 1:12"),
+    (b"int *p;", "NotInProfile at 1:5"),
+    (b"int a, *p;", "NotInProfile at 1:8"),
+    (b"*p;", "Unexpected at 1:1"),
+    (b"int (*p)(void);", "NotInProfile at 1:5"),
+    (b"void (*p)(void);", "NotInProfile at 1:6"),
+    (b"int f(int (*p)(void));", "NotInProfile at 1:11"),
+    (b"int f((p));", "Unexpected at 1:7"),
+    (b"int a[2][3];", "NotInProfile at 1:9"),
+    (b"int f(int a[]);", "NotInProfile at 1:12"),
+    (b"int f(int []);", "Unexpected at 1:11"),
+    (b"void a[2];", "Unexpected at 1:7"),
+    (b"int a[1, 2];", "NotInProfile at 1:8"),
+    (b"int a[2] = {1, static};", "Unexpected at 1:16"),
+    (b"const static int x;", "Unexpected at 1:7"),
+    (b"int f(static int x);", "Unexpected at 1:7"),
+    (b"int x = (void)1;", "NotInProfile at 1:10"),
+    (b"int x = (unsigned void)1;", "NotInProfile at 1:19"),
+    (b"int x = 1.5;", "NotInProfile at 1:10"),
+    (b"int f(int, , int);", "Unexpected at 1:12"),
+    (b"int f(int a = 1);", "NotInProfile at 1:13"),
+];
+
+/// The same of what stands in a function's block.
+const LEFT_OUT_INSIDE: [(&str, &str); 21] = [
+    ("static int x;", "NotInProfile at 1:16"),
+    ("if (x) { static int y; }", "NotInProfile at 1:25"),
+    ("int const x;", "Unexpected at 1:20"),
+    ("goto x;", "NotInProfile at 1:16"),
+    ("x.y = 1;", "NotInProfile at 1:17"),
+    ("x->y = 1;", "NotInProfile at 1:17"),
+    ("x = y = 1;", "NotInProfile at 1:22"),
+    ("f(x += 1);", "NotInProfile at 1:20"),
+    ("(x)++;", "NotInProfile at 1:19"),
+    ("x = *p;", "NotInProfile at 1:20"),
+    ("*p = 1;", "NotInProfile at 1:16"),
+    ("x = &y;", "NotInProfile at 1:20"),
+    ("++*p;", "NotInProfile at 1:18"),
+    ("++(x);", "Unexpected at 1:18"),
+    ("x = (int *)p;", "Unexpected at 1:25"),
+    ("x = (int)*p;", "NotInProfile at 1:25"),
+    ("f(void);", "Unexpected at 1:18"),
+    ("for (void", "Unexpected at 1:21"),
+    ("if (void)", "Unexpected at 1:20"),
+    ("(void)f();", "NotInProfile at 1:17"),
+    ("f((void)x);", "NotInProfile at 1:19"),
+];
+
+/// More of them.
+const MORE_LEFT_OUT_INSIDE: [(&str, &str); 20] = [
+    ("unsigned void x;", "Unexpected at 1:25"),
+    ("x = a[1][2];", "NotInProfile at 1:24"),
+    ("x = f()[1];", "Unexpected at 1:23"),
+    ("x = 1, y = 2;", "NotInProfile at 1:21"),
+    ("return x, y;", "NotInProfile at 1:24"),
+    ("x++, y++;", "NotInProfile at 1:19"),
+    ("++x, ++y;", "NotInProfile at 1:19"),
+    ("++x[1], y++;", "NotInProfile at 1:22"),
+    ("x[1]--, y++;", "NotInProfile at 1:22"),
+    ("f((x, y));", "NotInProfile at 1:20"),
+    ("return , x;", "Unexpected at 1:23"),
+    ("break, x;", "Unexpected at 1:16"),
+    ("case 1: ;", "Unexpected at 1:16"),
+    ("switch (x) { case 1: ; case 2: ; }", "NotInProfile at 1:39"),
+    (
+        "switch (x) { case 1: int y; default: ; }",
+        "NotInProfile at 1:44",
+    ),
+    (
+        "switch (x) { case 1: { y++; } case 2: ; }",
+        "NotInProfile at 1:46",
+    ),
+    ("switch (x) { case 1: { case 2: ; } }", "Unexpected at 1:39"),
+    ("switch (x) { case 1: x++ case 2: ; }", "Unexpected at 1:41"),
+    (
+        "switch (x) { case 1: if (x) case 2: ; }",
+        "Unexpected at 1:44",
+    ),
+    ("while (x) { case 1: ; }", "Unexpected at 1:28"),
+];
+
 fn name_of(rule: RawRule) -> &'static str {
     match rule {
         RawRule::Program => "Program",
@@ -316,8 +407,37 @@ fn faults_of_texts(rt: HostRuntime) -> Result<(), Fail> {
     Ok(())
 }
 
+#[test]
+fn left_out_of_the_profile(rt: HostRuntime) -> Result<(), Fail> {
+    let alloc = rt.alloc();
+    for (text, want) in LEFT_OUT {
+        assert_eq!(rt; parsed(alloc, text)?.as_str(), want);
+    }
+    Ok(())
+}
+
+#[test]
+fn left_out_inside_functions(rt: HostRuntime) -> Result<(), Fail> {
+    let alloc = rt.alloc();
+    for (item, want) in LEFT_OUT_INSIDE {
+        let text = repeated(alloc, "void f(void) { ", item, 1, " }")?;
+        assert_eq!(rt; parsed(alloc, text.as_bytes())?.as_str(), want);
+    }
+    Ok(())
+}
+
+#[test]
+fn more_left_out_inside_functions(rt: HostRuntime) -> Result<(), Fail> {
+    let alloc = rt.alloc();
+    for (item, want) in MORE_LEFT_OUT_INSIDE {
+        let text = repeated(alloc, "void f(void) { ", item, 1, " }")?;
+        assert_eq!(rt; parsed(alloc, text.as_bytes())?.as_str(), want);
+    }
+    Ok(())
+}
+
 /// So many copies of what nests between a beginning and an end, and the fault that is answered.
-const DEPTHS: [(&str, &str, u32, &str, &str); 14] = [
+const DEPTHS: [(&str, &str, u32, &str, &str); 19] = [
     ("int f(void){return ", "(", 63, "1", "Unexpected at 1:84"),
     ("int f(void){return ", "(", 64, "1", "TooDeep at 1:84"),
     ("int f(void){return ", "(", 64, ";", "TooDeep at 1:84"),
@@ -332,6 +452,17 @@ const DEPTHS: [(&str, &str, u32, &str, &str); 14] = [
     ("int f(void){", "if(1)", 64, ";", "TooDeep at 1:333"),
     ("int f(void){", "if(1)", 63, ")", "Unexpected at 1:328"),
     ("int x=", "(", 65, "1", "TooDeep at 1:72"),
+    ("int f(void){return ", "(", 64, "++", "TooDeep at 1:84"),
+    ("int f(void){return ", "~", 64, "++", "NotInProfile at 1:84"),
+    ("int f(void){return ", "~", 64, "*p", "NotInProfile at 1:84"),
+    ("int f(void){return ", "~", 64, "(", "TooDeep at 1:84"),
+    (
+        "int f(void){",
+        "if(1)",
+        63,
+        "switch(1){case 1:int a;case 2:",
+        "NotInProfile at 1:351",
+    ),
 ];
 
 #[test]
@@ -340,6 +471,57 @@ fn depths(rt: HostRuntime) -> Result<(), Fail> {
     for (first, more, count, last, want) in DEPTHS {
         let text = repeated(alloc, first, more, count, last)?;
         assert_eq!(rt; parsed(alloc, text.as_bytes())?.as_str(), want);
+    }
+    Ok(())
+}
+
+/// So many copies of operators with their operands between a beginning and an end, and the fault that is answered: none where
+/// there is a tree. The 1,001st binary operator of an expression that is part of no other is too deep.
+const OPERATORS: [(&str, &str, u32, &str, &str); 20] = [
+    ("int x=1", "+1", 1000, ";", ""),
+    ("int x=1", "+1", 1001, ";", "TooDeep at 1:2008"),
+    ("int x=1", "+1", 1000, "+;", "TooDeep at 1:2008"),
+    ("int x=1", "+1", 999, "+/1;", "Unexpected at 1:2007"),
+    ("int x=1", "&&1", 1001, ";", "TooDeep at 1:3008"),
+    ("int x=1", "+-1", 1000, ";", ""),
+    ("int x=1", "+(int)-1", 1000, ";", ""),
+    ("int x=(1", "+1", 1000, ")+1;", "TooDeep at 1:2010"),
+    ("int x=f(1", "+1", 1000, ",1+1);", "TooDeep at 1:2012"),
+    ("int x=1?1", "+1", 1000, ":1+1;", "TooDeep at 1:2012"),
+    ("int x=1", "?1:1", 64, ";", ""),
+    ("int x=1", "?1:1", 65, ";", "TooDeep at 1:265"),
+    ("int x=1", "+1", 1000, ",y=1+1;", ""),
+    ("int x[2]={1", "+1", 1000, ",1+1};", ""),
+    ("int x[1", "+1", 1000, "]={1+1};", ""),
+    ("int x[1", "+1", 1000, "]+", "Unexpected at 1:2009"),
+    ("void f(void){a[1", "+1", 1000, "]=1+1;}", ""),
+    ("void f(void){a[1", "+1", 1000, "]+1;}", "TooDeep at 1:2018"),
+    ("void f(void){if(1", "+1", 1000, ")-a+1;}", ""),
+    ("void f(void){switch(1){case 1", "+1", 1000, ":-a+1;}}", ""),
+];
+
+// The fault of a text, or nothing where it has a tree.
+fn fault_of(alloc: Global, text: &[u8]) -> Result<String, AllocError> {
+    let mut shown = String::new(alloc);
+    if text.len() > 65536 {
+        return Ok(shown);
+    }
+    match tokens(alloc, text) {
+        Ok(found) => match parse(alloc, text, found.as_slice()) {
+            Ok(_raw) => {},
+            Err(fault) => write!(shown, "{fault}")?,
+        },
+        Err(fault) => write!(shown, "{fault}")?,
+    }
+    Ok(shown)
+}
+
+#[test]
+fn operators(rt: HostRuntime) -> Result<(), Fail> {
+    let alloc = rt.alloc();
+    for (first, more, count, last, want) in OPERATORS {
+        let text = repeated(alloc, first, more, count, last)?;
+        assert_eq!(rt; fault_of(alloc, text.as_bytes())?.as_str(), want);
     }
     Ok(())
 }

@@ -1,5 +1,4 @@
-use Rattle.std.proofs.Common.{◌≡◌, ◌∷◌, reverse, arith}
-use Rattle.std.proofs.lemmas.Grind.{common_steps}
+use Rattle.std.proofs.Common.{◌≡◌, ◌∷◌, reverse}
 use Rattle.c_parse.specs.Machine.{stay}
 use Rattle.c_parse.proofs.Stepping.{lacks_token, lacks_turn, ends_on, ends_less}
 use Rattle.c_parse.proofs.machine.Machine.finish.Goals as goal

@@ -1,5 +1,4 @@
-use Rattle.std.proofs.Common.{◌≡◌, ◌∷◌, reverse, refl, sym, arith}
-use Rattle.std.proofs.lemmas.Grind.{common_steps}
+use Rattle.std.proofs.Common.{◌≡◌, ◌∷◌, reverse, refl, sym}
 use Rattle.c_parse.specs.Turning.{as_word}
 use Rattle.c_parse.proofs.Stepping.{reach_here, refuse_end, refuse_here, same_leaf, turn_less, turn_on, steps_from}
 use Rattle.c_parse.proofs.machine.Machine.step.Goals as goal

@@ -1,0 +1,12 @@
+use Rattle.std.proofs.Common.{◌≡◌, ◌≤◌, ◌+◌, length}
+use Rattle.c_parse.specs.Profile.{outside}
+use Rattle.c_parse.proofs.last_words.outside.Given as goal
+
+abbrev pub invariant-loop-rest : goal.invariant-loop-rest
+invariant-loop-rest l = record {
+  same : outside l.closed l.rest ≡ outside 0 l.classes;
+  few : l.closed + length l.rest ≤ length l.classes;
+}
+
+abbrev pub decreases-loop-rest : goal.decreases-loop-rest
+decreases-loop-rest l = length l.rest
