@@ -1,0 +1,10 @@
+use Rattle.std.proofs.Common.{◌≡◌, length}
+use Rattle.c_types.specs.Functions as spec
+use Rattle.c_types.proofs.Making.{Leads}
+use Rattle.c_types.proofs.functions.name_parameters.Given as goal
+
+abbrev pub invariant-loop-p : goal.invariant-loop-p
+invariant-loop-p l = Leads (spec.name_parameters l.ps) l.initial.state (spec.name_parameters l.rest) l.state
+
+abbrev pub decreases-loop-p : goal.decreases-loop-p
+decreases-loop-p l = length l.rest
