@@ -10,6 +10,7 @@ pub mod Opening
 pub mod StraightRunning
 pub mod Lowered
 pub mod StraightRuns
+pub mod TypedRuns
 pub mod StraightLoaded
 pub mod StraightCode
 pub mod StraightCosts

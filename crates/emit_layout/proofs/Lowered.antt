@@ -11,7 +11,7 @@ use Rattle.straight_programs.specs.declared.program.Expression.{Expression}
 use Rattle.straight_programs.specs.declared.program.Expression.TheVariants.{Number, Part as Plain, Input as Taken, Sum}
 use Rattle.straight_programs.specs.declared.program.Statement.{Statement}
 use Rattle.straight_programs.specs.declared.program.Statement.TheVariants.{Declare, Assign, Put}
-use Rattle.straight_programs.specs.Text.{IsPart, IsExpression, AreStatements, expression_operations, statement_operations}
+use Rattle.straight_programs.specs.Statements.{IsPart, IsExpression, AreStatements, expression_operations, statement_operations}
 use Rattle.straight_programs.specs.Steps.{Variables, with_variable, next_word, words_behind, part_value, value_of, input_behind, statement_steps, does, nodes_of}
 use Rattle.straight_programs.proofs.StraightLemmas.{whole, after_both, words_at, ended_at}
 use Rattle.msp430_machine.specs.State.{set_at}
@@ -228,16 +228,16 @@ module _ (input : List ℕ) (statements : List Statement) where
   lowered_shows done (Declare name e ∷ rest) names temporary m split are room h =
       let x = whole done input in
       let count = sum_by-cons declares (Declare name e) rest in
-      let v = evaluated input names temporary x.variables x.input e m (omega (arith, room)) are.2 h.mirrors in
+      let v = evaluated input names temporary x.variables x.input e m (omega (arith, room)) are.1 h.mirrors in
       let m1 = all_performed input (computed names temporary e) m in
       let m2 = performed input (Copy (length names) (operand_of names temporary e)) m1 in
       let after = after_both done (Declare name e ∷ []) (λ n. 0) input in
       let next = stored_on (names ++ name ∷ []) done (Declare name e) m2 (with_variable x.variables name (value_of x.variables x.input e)) (input_behind x.input e) (x.words ++ []) after
-      (declared input names x.variables (input_behind x.input e) m1 name _ _ are.1 v.value v.mirrors)
+      (declared input names x.variables (input_behind x.input e) m1 name _ _ are.0 v.value v.mirrors)
       (v.put ∙ h.put ∙ sym (append-nil x.words)) in
       computed_shows names temporary e _ m (shown_at done (Declare name e ∷ rest) m.put split h.put) (
         shown_at done (Declare name e ∷ rest) m1.put split (v.put ∙ h.put),
-        lowered_shows (done ++ Declare name e ∷ []) rest (names ++ name ∷ []) (temporary_behind temporary e) m2 (split ∙ sym (append_assoc done (Declare name e ∷ []) rest)) are.3
+        lowered_shows (done ++ Declare name e ∷ []) rest (names ++ name ∷ []) (temporary_behind temporary e) m2 (split ∙ sym (append_assoc done (Declare name e ∷ []) rest)) are.2
             (omega (arith, room, count, length-append names (name ∷ []), more_behind temporary e)) next,
       )
   lowered_shows done (Assign name e ∷ rest) names temporary m split are room h =
@@ -307,9 +307,9 @@ lowered_fit (Declare name e ∷ rest) names temporary are room few =
     let count = sum_by-cons declares (Declare name e) rest in
     let more = sum_by-cons computes (Declare name e) rest in
     let next = behind_counts temporary e in
-    computed_fit names temporary e _ (omega (arith, room, few)) (omega (arith, few, more, next)) are.2 (
-      (omega (arith, room, few, count), operand_fits names temporary e (omega (arith, room, few)) (omega (arith, few, more, next)) are.2),
-      lowered_fit rest (names ++ name ∷ []) (temporary_behind temporary e) are.3 (omega (arith, room, count, length-append names (name ∷ []), next)) (omega (arith, few, more, next)),
+    computed_fit names temporary e _ (omega (arith, room, few)) (omega (arith, few, more, next)) are.1 (
+      (omega (arith, room, few, count), operand_fits names temporary e (omega (arith, room, few)) (omega (arith, few, more, next)) are.1),
+      lowered_fit rest (names ++ name ∷ []) (temporary_behind temporary e) are.2 (omega (arith, room, count, length-append names (name ∷ []), next)) (omega (arith, few, more, next)),
     )
 lowered_fit (Assign name e ∷ rest) names temporary are room few =
     let count = sum_by-cons declares (Assign name e) rest in

@@ -5,7 +5,7 @@ use Rattle.std.proofs.lemmas.Grind.{flat_map-append}
 use Rattle.std.proofs.lemmas.List.Sums.{sum_by-cons}
 use Rattle.straight_programs.specs.declared.program.Statement.{Statement}
 use Rattle.straight_programs.specs.declared.program.Statement.TheVariants.{Declare, Assign, Put}
-use Rattle.straight_programs.specs.Text.{statement_operations}
+use Rattle.straight_programs.specs.Statements.{statement_operations}
 use Rattle.msp430_isa.specs.Encoding.{words_of}
 use Rattle.emit_layout.specs.Code.{boot, head, finish, first_resume}
 use Rattle.emit_layout.specs.Layout.{bytes_in, bytes_of}

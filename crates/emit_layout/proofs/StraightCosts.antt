@@ -8,7 +8,7 @@ use Rattle.straight_programs.specs.declared.program.Expression.{Expression}
 use Rattle.straight_programs.specs.declared.program.Expression.TheVariants.{Number, Part as Plain, Input as Taken, Sum}
 use Rattle.straight_programs.specs.declared.program.Statement.{Statement}
 use Rattle.straight_programs.specs.declared.program.Statement.TheVariants.{Declare, Assign, Put}
-use Rattle.straight_programs.specs.Text.{AreStatements, statement_operations}
+use Rattle.straight_programs.specs.Statements.{AreStatements, statement_operations}
 use Rattle.msp430_isa.specs.declared.instr.Src.TheVariants.{Reg as FromReg, Abs as FromAbs}
 use Rattle.msp430_isa.specs.declared.instr.Dst.TheVariants.{Reg as ToReg, Abs as ToAbs}
 use Rattle.msp430_isa.specs.declared.instr.TwoOp.TheVariants.{Mov as MOV}

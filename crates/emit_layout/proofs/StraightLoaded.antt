@@ -10,7 +10,7 @@ use Rattle.msp430_isa.proofs.Spelling.{has_words}
 use Rattle.msp430_machine.specs.State.{Off, State, no_flags}
 use Rattle.msp430_machine.specs.First.{IsFirst, HoldsBlocks}
 use Rattle.straight_programs.specs.declared.program.Statement.{Statement}
-use Rattle.straight_programs.specs.Text.{statement_operations}
+use Rattle.straight_programs.specs.Statements.{statement_operations}
 use Rattle.emit_layout.specs.Code.{boot, head, finish, first_resume}
 use Rattle.emit_layout.specs.Operations.{Operation, OperationsFit, operations_of, straight_code, template}
 use Rattle.emit_layout.specs.Straight.{straight_blocks}

@@ -2,7 +2,7 @@
 use Rattle.std.proofs.Common.{◌≡◌, ℕ, ◌+◌, ◌*◌, ◌<◌, ◌≤◌, List, [], ◌∷◌, length, flat_map, sum_by, refl, ap, subst, arith}
 use Rattle.board_table.specs.declared.board.Board.{Board}
 use Rattle.straight_programs.specs.declared.program.Statement.{Statement}
-use Rattle.straight_programs.specs.Text.{statement_operations}
+use Rattle.straight_programs.specs.Statements.{statement_operations}
 use Rattle.straight_programs.specs.Steps.{does, nodes_of}
 use Rattle.straight_programs.proofs.StraightLemmas.{steady, going_at, ended_at}
 use Rattle.msp430_isa.specs.Encoding.{words_of}

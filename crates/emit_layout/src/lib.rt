@@ -13,5 +13,5 @@ mod straight_theorem;
 mod weights;
 
 pub use straight::{data_bytes, straight_image};
-pub use straight_theorem::straight_images_agree;
+pub use straight_theorem::{straight_images_agree, typed_images_agree};
 pub use weights::straight_need;

@@ -1,6 +1,6 @@
 ghost use Rattle.std.specs.Prelude.{◌≡◌, ◌≤◌, ◌+◌, ◌*◌, ◌<◌, ◌++◌, [], ◌∷◌, length, flat_map, sum_by, IfOk, OnOk};
 ghost use Rattle.msp430_isa.specs.Encoding.{words_of};
-ghost use Rattle.straight_programs.specs.Text.{statement_operations};
+ghost use Rattle.straight_programs.specs.Statements.{statement_operations};
 ghost use Rattle.ti_txt.specs.Bytes.{blocks_of};
 ghost use Rattle.emit_layout.specs.Code.{boot, finish, first_resume, head};
 ghost use Rattle.emit_layout.specs.Layout.{bytes_in, bytes_of};

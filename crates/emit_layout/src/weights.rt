@@ -1,5 +1,5 @@
 ghost use Rattle.std.specs.Prelude.{◌≡◌, ◌≤◌, ◌+◌, ◌*◌, ◌<◌, [], ◌∷◌, length, drop, sum_by};
-ghost use Rattle.straight_programs.specs.Text.{AreStatements, statement_operations};
+ghost use Rattle.straight_programs.specs.Statements.{AreStatements, statement_operations};
 ghost use Rattle.emit_layout.specs.Code.{move};
 ghost use Rattle.emit_layout.specs.Need.{cost_of};
 ghost use Rattle.emit_layout.specs.Operations.{OperandFits, OperationFits, address_of, computed, source_of, template};

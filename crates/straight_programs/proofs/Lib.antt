@@ -3,3 +3,6 @@ mod Parts
 pub mod Spelling
 pub mod StraightLemmas
 mod Examples
+mod Taking
+pub mod SameMeaning
+pub mod Shapes

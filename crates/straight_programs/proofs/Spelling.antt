@@ -11,7 +11,8 @@ use Rattle.straight_programs.specs.declared.program.Expression.{Expression}
 use Rattle.straight_programs.specs.declared.program.Expression.TheVariants.{Number, Part as Plain, Input, Sum}
 use Rattle.straight_programs.specs.declared.program.Statement.{Statement}
 use Rattle.straight_programs.specs.declared.program.Statement.TheVariants.{Declare, Assign, Put}
-use Rattle.straight_programs.specs.Text.{IsProgram, IsNoProgram, statement_text, IsLetter, IsPart, IsExpression, AreStatements, statement_operations}
+use Rattle.straight_programs.specs.Text.{IsProgram, IsNoProgram, statement_text, IsLetter, HaveLetters}
+use Rattle.straight_programs.specs.Statements.{IsPart, IsExpression, AreStatements, statement_operations}
 use Rattle.straight_programs.specs.Reading.{IsWrittenPart, IsWritten, IsWrittenStatement, ReadsStatement, HasNoStatement, ReadsStatements, IsEnd, IsKnownPart, IsKnown, MayStand, names_with, names_behind}
 use Rattle.straight_programs.proofs.Parts.{statement_once}
 
@@ -37,12 +38,12 @@ written names (Plain p) a v = part_written names p a v
 written names Input a v = tt
 written names (Sum p q) a v = (part_written names p a v.0, part_written names q a v.1)
 
-all_written : (names : List ℕ) (statements : List Statement) → Letters names → AreStatements names statements → AreWritten statements
-all_written names [] a v = tt
-all_written names (Declare name e ∷ rest) a v =
-    ((v.0, written names e a v.2), all_written (names ++ name ∷ []) rest (All-push IsLetter names name a v.0) v.3)
-all_written names (Assign name e ∷ rest) a v = ((All-contains IsLetter names name a v.0, written names e a v.1), all_written names rest a v.2)
-all_written names (Put e ∷ rest) a v = (written names e a v.0, all_written names rest a v.1)
+all_written : (names : List ℕ) (statements : List Statement) → Letters names → HaveLetters statements → AreStatements names statements → AreWritten statements
+all_written names [] a l v = tt
+all_written names (Declare name e ∷ rest) a l v =
+    ((l.0, written names e a v.1), all_written (names ++ name ∷ []) rest (All-push IsLetter names name a l.0) l.1 v.2)
+all_written names (Assign name e ∷ rest) a l v = ((All-contains IsLetter names name a v.0, written names e a v.1), all_written names rest a l v.2)
+all_written names (Put e ∷ rest) a l v = (written names e a v.0, all_written names rest a l v.1)
 
 part_known : (names : List ℕ) (p : Part) → IsPart names p → IsKnownPart names p
 part_known names (Name name) v = v
@@ -55,7 +56,7 @@ known names Input v = tt
 known names (Sum p q) v = (part_known names p v.0, part_known names q v.1)
 
 stands : (names : List ℕ) (s : Statement) (rest : List Statement) → AreStatements names (s ∷ rest) → MayStand names s
-stands names (Declare name e) rest v = (v.1, known names e v.2)
+stands names (Declare name e) rest v = (v.0, known names e v.1)
 stands names (Assign name e) rest v = (v.0, known names e v.1)
 stands names (Put e) rest v = known names e v.0
 
@@ -70,21 +71,29 @@ valid names Input w k = tt
 valid names (Sum p q) w k = (part_valid names p w.0 k.0, part_valid names q w.1 k.1)
 
 valid_one : (names : List ℕ) (s : Statement) → IsWrittenStatement s → MayStand names s → AreStatements names (s ∷ [])
-valid_one names (Declare name e) w k = (w.0, k.0, valid names e w.1 k.1, tt)
+valid_one names (Declare name e) w k = (k.0, valid names e w.1 k.1, tt)
 valid_one names (Assign name e) w k = (k.0, valid names e w.1 k.1, tt)
 valid_one names (Put e) w k = (valid names e w k, tt)
 
 valid_both : (names : List ℕ) (done left : List Statement) → AreStatements names done → AreStatements (names_behind names done) left → AreStatements names (done ++ left)
 valid_both names [] left v u = u
-valid_both names (Declare name e ∷ done) left v u = (v.0, v.1, v.2, valid_both (names ++ name ∷ []) done left v.3 u)
+valid_both names (Declare name e ∷ done) left v u = (v.0, v.1, valid_both (names ++ name ∷ []) done left v.2 u)
 valid_both names (Assign name e ∷ done) left v u = (v.0, v.1, valid_both names done left v.2 u)
 valid_both names (Put e ∷ done) left v u = (v.0, valid_both names done left v.1 u)
 
 valid_left : (names : List ℕ) (done left : List Statement) → AreStatements names (done ++ left) → AreStatements (names_behind names done) left
 valid_left names [] left v = v
-valid_left names (Declare name e ∷ done) left v = valid_left (names ++ name ∷ []) done left v.3
+valid_left names (Declare name e ∷ done) left v = valid_left (names ++ name ∷ []) done left v.2
 valid_left names (Assign name e ∷ done) left v = valid_left names done left v.2
 valid_left names (Put e ∷ done) left v = valid_left names done left v.1
+
+letters_push : (done : List Statement) (s : Statement) → HaveLetters done → IsWrittenStatement s → HaveLetters (done ++ s ∷ [])
+letters_push [] (Declare name e) l w = (w.0, tt)
+letters_push [] (Assign name e) l w = tt
+letters_push [] (Put e) l w = tt
+letters_push (Declare name e ∷ done) s l w = (l.0, letters_push done s l.1 w)
+letters_push (Assign name e ∷ done) s l w = letters_push done s l w
+letters_push (Put e ∷ done) s l w = letters_push done s l w
 
 names_push : (names : List ℕ) (done : List Statement) (s : Statement) → names_behind names (done ++ s ∷ []) ≡ names_with (names_behind names done) s
 names_push names [] s = refl
@@ -101,6 +110,7 @@ one_more text done names operations rest s back next sum r read stand is counted
     let total = sum_by_push statement_operations done s in
     record {
       split = r.split ∙ ap (λ l. flat_map statement_text done ++ l) read.split ∙ sym (append_assoc (flat_map statement_text done) (statement_text s) back) ∙ ap (λ l. l ++ back) (sym whole);
+      letters = letters_push done s r.letters read.written;
       valid = valid_both [] done (s ∷ []) r.valid (valid_one (names_behind [] done) s read.written (subst (λ (l : List ℕ). MayStand l s) r.declared stand));
       declared = is ∙ ap (λ l. names_with l s) r.declared ∙ sym (names_push [] done s);
       counted = omega (arith, counted, r.counted, total);
@@ -158,11 +168,11 @@ abbrev Left : List Statement → List ℕ → List Statement → Type 0
 Left done rest statements = (end : List ℕ) × IsEnd end × ((left : List Statement) × (statements ≡ done ++ left) × (rest ≡ flat_map statement_text left ++ end))
 
 left_of : (text body : List ℕ) (done : List Statement) (rest : List ℕ) (statements : List Statement) → text ≡ codes "int main(void){" ++ body
-    → body ≡ flat_map statement_text done ++ rest → AreStatements [] done → IsProgram text statements → Left done rest statements
-left_of text body done rest statements e split ok p =
+    → body ≡ flat_map statement_text done ++ rest → HaveLetters done → AreStatements [] done → IsProgram text statements → Left done rest statements
+left_of text body done rest statements e split letters ok p =
     let (end, is, whole) = ended text statements p in
     let same = append_cancel_left (codes "int main(void){") body (flat_map statement_text statements ++ end) (sym e ∙ whole) in
-    (end, is, way done statements rest end (all_written [] done no_letters ok) (all_written [] statements no_letters p.valid) is (sym split ∙ same))
+    (end, is, way done statements rest end (all_written [] done no_letters letters ok) (all_written [] statements no_letters p.letters p.valid) is (sym split ∙ same))
 
 later_written : (done left statements : List Statement) → AreWritten statements → statements ≡ done ++ left → AreWritten left
 later_written [] left statements a e = subst AreWritten e a
@@ -183,22 +193,22 @@ no_opened text none statements p =
 pub no_end : (text body : List ℕ) (done : List Statement) (names : List ℕ) (operations : ℕ) (rest : List ℕ) → text ≡ codes "int main(void){" ++ body
     → ReadsStatements body done names operations rest → HasNoStatement rest → (IsEnd rest → ⊥) → IsNoProgram text
 no_end text body done names operations rest e r none other statements p =
-    let l = left_of text body done rest statements e r.split r.valid p in
-    no_left rest l.2.0 l.0 (later_written done l.2.0 statements (all_written [] statements no_letters p.valid) l.2.1) none other l.1 l.2.2
+    let l = left_of text body done rest statements e r.split r.letters r.valid p in
+    no_left rest l.2.0 l.0 (later_written done l.2.0 statements (all_written [] statements no_letters p.letters p.valid) l.2.1) none other l.1 l.2.2
 
 -- a statement that was read is the next one of any program of the text
 next_of : (text body : List ℕ) (done : List Statement) (names : List ℕ) (operations : ℕ) (rest : List ℕ) (s : Statement) (back : List ℕ) (statements : List Statement)
     → text ≡ codes "int main(void){" ++ body → ReadsStatements body done names operations rest → ReadsStatement rest s back → IsProgram text statements
     → (left : List Statement) × (statements ≡ done ++ s ∷ left)
 next_of text body done names operations rest s back statements e r read p =
-    let l = left_of text body done rest statements e r.split r.valid p in
+    let l = left_of text body done rest statements e r.split r.letters r.valid p in
     found l.0 l.1 l.2.0 l.2.1 l.2.2
   where
     found : (end : List ℕ) → IsEnd end → (left : List Statement) → statements ≡ done ++ left → rest ≡ flat_map statement_text left ++ end
         → (left : List Statement) × (statements ≡ done ++ s ∷ left)
     found end is [] front rear = absurd (apart s back end read.written is (sym read.split ∙ rear))
     found end is (t ∷ left) front rear =
-        let a = later_written done (t ∷ left) statements (all_written [] statements no_letters p.valid) front in
+        let a = later_written done (t ∷ left) statements (all_written [] statements no_letters p.letters p.valid) front in
         let same = statement_once s t back (flat_map statement_text left ++ end) read.written a.0 (sym read.split ∙ rear ∙ spell t left end) in
         (left, front ∙ ap (λ x. done ++ x ∷ left) (sym same.0))
 
@@ -224,11 +234,11 @@ unknown_name text body done names operations rest s back e r read none statement
 pub one_list : (text : List ℕ) (a b : List Statement) → IsProgram text a → IsProgram text b → a ≡ b
 one_list text a b p q =
     let (end, is, whole) = ended text a p in
-    let l = left_of text (flat_map statement_text a ++ end) a end b whole refl p.valid q in
+    let l = left_of text (flat_map statement_text a ++ end) a end b whole refl p.letters p.valid q in
     none end is l.0 l.1 l.2.0 l.2.1 l.2.2
   where
     none : (end : List ℕ) → IsEnd end → (other : List ℕ) → IsEnd other → (left : List Statement) → b ≡ a ++ left → end ≡ flat_map statement_text left ++ other → a ≡ b
     none end is other also [] front back = sym (front ∙ append-nil a)
     none end is other also (s ∷ left) front back =
-        let w = later_written a (s ∷ left) b (all_written [] b no_letters q.valid) front in
+        let w = later_written a (s ∷ left) b (all_written [] b no_letters q.letters q.valid) front in
         absurd (apart s (flat_map statement_text left ++ other) end w.0 is (sym (back ∙ spell s left other)))

@@ -56,10 +56,10 @@ behind_words words m = record { words = words ++ m.words; outcome = m.outcome }
 
 -- ---- A test of the steps, decided
 
-small : (n c : ℕ) → n < c → nat_lt n c ≡ true
+pub small : (n c : ℕ) → n < c → nat_lt n c ≡ true
 small n c lt = grind (arith, nat_tests)
 
-large : (n c : ℕ) → c ≤ n → nat_lt n c ≡ false
+pub large : (n c : ℕ) → c ≤ n → nat_lt n c ≡ false
 large n c le = grind (arith, nat_tests)
 
 -- ---- One statement
@@ -87,7 +87,7 @@ done_after s rest vs input n le =
     unrolled s rest vs input n
     ∙ ap (λ c. if c then nothing_yet else behind_words (words_of vs input s) (does_from rest (variables_behind vs input s) (input_left input s) (n - statement_steps s))) (large n (statement_steps s) le)
 
-nothing_at : (statements : List Statement) (input : List ℕ) (n : ℕ) → n < 1 → does statements input n ≡ nothing_yet
+pub nothing_at : (statements : List Statement) (input : List ℕ) (n : ℕ) → n < 1 → does statements input n ≡ nothing_yet
 nothing_at statements input n lt = ap (λ c. if c then nothing_yet else does_from statements (λ name. 0) input (n - 1)) (small n 1 lt)
 
 pub begun_at : (statements : List Statement) (input : List ℕ) (n : ℕ) → 1 ≤ n → does statements input n ≡ does_from statements (λ name. 0) input (n - 1)

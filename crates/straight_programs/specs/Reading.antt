@@ -8,7 +8,8 @@ use Rattle.straight_programs.specs.declared.program.Expression.{Expression}
 use Rattle.straight_programs.specs.declared.program.Expression.TheVariants.{Number, Part as Plain, Input, Sum}
 use Rattle.straight_programs.specs.declared.program.Statement.{Statement}
 use Rattle.straight_programs.specs.declared.program.Statement.TheVariants.{Declare, Assign, Put}
-use Rattle.straight_programs.specs.Text.{part_text, expression_text, statement_text, IsLetter, AreStatements, statement_operations}
+use Rattle.straight_programs.specs.Text.{part_text, expression_text, statement_text, IsLetter, HaveLetters}
+use Rattle.straight_programs.specs.Statements.{AreStatements, statement_operations}
 
 -- ---- Numbers
 
@@ -138,6 +139,7 @@ names_behind names (s ∷ rest) = names_behind (names_with names s) rest
 -- statements stand at the front, with these names declared and so many operations
 pub record ReadsStatements (text : List ℕ) (done : List Statement) (names : List ℕ) (operations : ℕ) (rest : List ℕ) : Type 0 where
   pub split : text ≡ flat_map statement_text done ++ rest
+  pub letters : HaveLetters done
   pub valid : AreStatements [] done
   pub declared : names ≡ names_behind [] done
   pub counted : operations ≡ sum_by statement_operations done

@@ -1,12 +1,13 @@
 -- The text of a program: `int main(void){`, statements, `return 0;}`, and one line feed at most. There is no other white
 -- space than is written here.
-use Rattle.std.specs.Prelude.{ℕ, ◌≡◌, ◌+◌, ◌≤◌, ◌⊎◌, List, [], ◌∷◌, ◌++◌, Contains, sum_by, flat_map, codes, decimal, ⊤}
+use Rattle.std.specs.Prelude.{ℕ, ◌≡◌, ◌≤◌, ◌⊎◌, List, [], ◌∷◌, ◌++◌, sum_by, flat_map, codes, decimal, ⊤}
 use Rattle.straight_programs.specs.declared.program.Part.{Part}
 use Rattle.straight_programs.specs.declared.program.Part.TheVariants.{Name, Unsigned}
 use Rattle.straight_programs.specs.declared.program.Expression.{Expression}
 use Rattle.straight_programs.specs.declared.program.Expression.TheVariants.{Number, Part as Plain, Input, Sum}
 use Rattle.straight_programs.specs.declared.program.Statement.{Statement}
 use Rattle.straight_programs.specs.declared.program.Statement.TheVariants.{Declare, Assign, Put}
+pub use Rattle.straight_programs.specs.Statements.{IsPart, IsExpression, AreStatements, expression_operations, statement_operations}
 
 -- ---- Spelling
 
@@ -34,42 +35,17 @@ text_of statements = codes "int main(void){" ++ flat_map statement_text statemen
 abbrev pub IsLetter : ℕ → Type 0
 IsLetter name = (97 ≤ name) × (name ≤ 122)
 
--- a number is an `int` of C; a name is declared
-abbrev pub IsPart : List ℕ → Part → Type 0
-IsPart names (Name name) = Contains names name
-IsPart names (Unsigned n) = n ≤ 32767
-
-abbrev pub IsExpression : List ℕ → Expression → Type 0
-IsExpression names (Number n) = n ≤ 32767
-IsExpression names (Plain p) = IsPart names p
-IsExpression names Input = ⊤
-IsExpression names (Sum p q) = IsPart names p × IsPart names q
-
--- the statements, where these names are declared: a name is declared once, in a statement before its use
-abbrev pub AreStatements : List ℕ → List Statement → Type 0
-AreStatements names [] = ⊤
-AreStatements names (Declare name e ∷ rest) = IsLetter name × (¬ Contains names name) × IsExpression names e × AreStatements (names ++ name ∷ []) rest
-AreStatements names (Assign name e ∷ rest) = Contains names name × IsExpression names e × AreStatements names rest
-AreStatements names (Put e ∷ rest) = IsExpression names e × AreStatements names rest
-
--- ---- Operations
-
--- an input or a sum is an operation of its own
-abbrev pub expression_operations : Expression → ℕ
-expression_operations (Number n) = 0
-expression_operations (Plain p) = 0
-expression_operations Input = 1
-expression_operations (Sum p q) = 1
-
--- and so is each statement
-abbrev pub statement_operations : Statement → ℕ
-statement_operations (Declare name e) = expression_operations e + 1
-statement_operations (Assign name e) = expression_operations e + 1
-statement_operations (Put e) = expression_operations e + 1
+-- each name that is declared is a letter
+abbrev pub HaveLetters : List Statement → Type 0
+HaveLetters [] = ⊤
+HaveLetters (Declare name e ∷ rest) = IsLetter name × HaveLetters rest
+HaveLetters (Assign name e ∷ rest) = HaveLetters rest
+HaveLetters (Put e ∷ rest) = HaveLetters rest
 
 -- the text is that of these statements, which are a program of at most 256 operations, the return one of them
 pub record IsProgram (text : List ℕ) (statements : List Statement) : Type 0 where
   pub spelled : (text ≡ text_of statements) ⊎ (text ≡ text_of statements ++ 10 ∷ [])
+  pub letters : HaveLetters statements
   pub valid : AreStatements [] statements
   pub few : sum_by statement_operations statements ≤ 255
 

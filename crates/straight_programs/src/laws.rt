@@ -1,5 +1,5 @@
 //! Laws of the programs: each contract is one, and the functions do nothing.
-ghost use Rattle.straight_programs.specs.Laws.{AreSteady, EndWithAll, GoOnBefore, HasOneList};
+ghost use Rattle.straight_programs.specs.Laws.{AreSteady, DoWhatStatementsDo, EndWithAll, GoOnBefore, HasOneList, HasOneShape};
 
 /// With more steps a program puts no other words, and what has ended stays as it is.
 pub fn are_steady()
@@ -19,4 +19,14 @@ pub fn go_on_before()
 /// A text is of one list of statements at most.
 pub fn has_one_list()
     ensures { HasOneList }
+{}
+
+/// A typed program of one stretch does what its statements do, step by step, on each input of words.
+pub fn do_what_statements_do()
+    ensures { DoWhatStatementsDo }
+{}
+
+/// A typed program is of one list of statements at most.
+pub fn has_one_shape()
+    ensures { HasOneShape }
 {}

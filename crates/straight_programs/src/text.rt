@@ -251,7 +251,7 @@ fn operations_of_value(value: Expression) -> usize
     }
 }
 
-fn operations_of(statement: Statement) -> usize
+pub fn operations_of(statement: Statement) -> usize
     ensures { result ≡ statement_operations statement }
 {
     match statement {
