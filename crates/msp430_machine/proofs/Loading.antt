@@ -2,11 +2,12 @@
 use Rattle.std.proofs.Common.{◌≡◌, ℕ, ◌+◌, ◌-◌, ◌*◌, ◌/◌, ◌%◌, ◌<◌, ◌≤◌, true, false, None, List, [], ◌∷◌, length, get_or, replicate, refl, sym, ap, ◌∙◌, subst, arith, ⊎_elim, ◌⊎◌, zero, suc}
 use Rattle.std.specs.Prelude.{if◌then◌else◌, ◌==◌, ◌&&◌, nat_le, nat_lt, slice_get, unwrap_or, Bool, map}
 use Rattle.std.proofs.lemmas.Bool.Decides.{nat_tests}
+use Rattle.std.proofs.lemmas.List.{get_or_past}
 use Rattle.ti_txt.specs.Image.{Block, block_of, end_of, Ascend}
 use Rattle.ti_txt.specs.declared.image.Segment.{Segment}
 use Rattle.ti_txt.specs.Bytes.{byte_in}
 use Rattle.msp430_machine.specs.Memory.{half}
-use Rattle.msp430_machine.specs.Loading.{byte_over}
+use Rattle.msp430_machine.specs.Loading.{byte_over, loaded_word}
 
 pub zero_at : (n a : ℕ) → ◌≡◌ {A = ℕ} (get_or (replicate n 0) a 0) 0
 zero_at zero a = refl
@@ -86,3 +87,20 @@ half_of_pair bytes start a w small even low is =
     (λ e. (let same : start + 2 * ((a - start) / 2) ≡ a = omega arith in half_even a w _ _ e is (small _) ∙ ap (λ x. get_or bytes x 0) same))
     (λ e. (let same : start + 2 * ((a - start) / 2) + 1 ≡ a = omega arith in half_odd a w _ _ e is (small _) ∙ ap (λ x. get_or bytes x 0) same))
     (parity a)
+
+-- ---- Words of a memory
+
+-- a memory that is filled from these bytes
+pub word_loaded : (blocks : List Block) (bytes words : List ℕ) (start : ℕ) → ((a : ℕ) → get_or bytes a 0 ≡ byte_over blocks [] a)
+    → ((k : ℕ) → k < 16384 → get_or words k 0 ≡ get_or bytes (start + 2 * k) 0 + 256 * get_or bytes (start + 2 * k + 1) 0)
+    → length words ≡ 16384 → (k : ℕ) → get_or words k 0 ≡ loaded_word blocks start k
+word_loaded blocks bytes words start over within count k =
+    let there = byte_over blocks [] (start + 2 * k) + 256 * byte_over blocks [] (start + 2 * k + 1) in
+    bool_cases (nat_lt k 16384) (get_or words k 0 ≡ loaded_word blocks start k)
+    (λ is. (let below : k < 16384 = grind (arith, nat_tests) in
+    within k below
+    ∙ ap (λ x. x + 256 * get_or bytes (start + 2 * k + 1) 0) (over (start + 2 * k))
+    ∙ ap (λ x. byte_over blocks [] (start + 2 * k) + 256 * x) (over (start + 2 * k + 1))
+    ∙ sym (ap (λ c. if c then there else 0) is)))
+    (λ other. (let beyond : length words ≤ k = grind (arith, nat_tests) in
+    get_or_past words k 0 beyond ∙ sym (ap (λ c. if c then there else 0) other)))

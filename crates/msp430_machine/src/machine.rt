@@ -4,7 +4,8 @@ ghost use Rattle.std.specs.Prelude.{◌≡◌, ◌+◌, ◌-◌, ◌*◌, ◌/�
 ghost use Rattle.msp430_isa.specs.Results.{values};
 ghost use Rattle.msp430_machine.specs.Addresses.{region};
 ghost use Rattle.msp430_machine.specs.First.{IsFirst, HoldsImage};
-ghost use Rattle.msp430_machine.specs.Loading.{IsZeroBut};
+ghost use Rattle.ti_txt.specs.Bytes.{blocks_of};
+ghost use Rattle.msp430_machine.specs.Loading.{IsLoaded, IsZeroBut};
 ghost use Rattle.msp430_machine.specs.Steps.{answer_of};
 ghost use Rattle.msp430_machine.specs.Wakes.{CanWake, IsCold, Wakes, WakesFrom};
 ghost use Rattle.msp430_machine.specs.State.{State, AreWords, Off, Awake, Asleep, Faulted, set_at, register, with_register, status_word, with_status, input_word};
@@ -75,6 +76,7 @@ impl Machine {
         ensures first { IfOk result (λ m. IsFirst (state_of m)) }
         ensures holds { IfOk result (λ m. HoldsImage img.now (state_of m)) }
         ensures zero { IfOk result (λ m. IsZeroBut img.now (state_of m)) }
+        ensures loaded { IfOk result (λ m. IsLoaded (blocks_of img.now) (state_of m)) }
     {
         let bytes = image_bytes(alloc, img)?;
         bytes_are_small(bytes.as_slice());

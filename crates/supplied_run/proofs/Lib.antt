@@ -3,3 +3,4 @@ pub mod Reaching
 pub mod Boxes
 pub mod Turning
 pub mod Telling
+pub mod OneRun

@@ -3,7 +3,7 @@ use Rattle.std.proofs.Common.{◌≡◌, ◌≢◌, ◌∙◌, ◌+◌, ◌-◌,
 use Rattle.std.specs.Prelude.{◌==◌, if◌then◌else◌, slice_index, slice_set}
 use Rattle.std.proofs.lemmas.Bool.Decides.{Decides-eqb}
 use Rattle.std.proofs.lemmas.Bool.{cases_Bool}
-use Rattle.std.proofs.lemmas.List.{get_or-replicate, get_or-set_other}
+use Rattle.std.proofs.lemmas.List.{get_or-replicate, get_or-set_other, get_or_past, length-replicate}
 use Rattle.board_table.specs.declared.board.Board.{Board}
 use Rattle.msp430_machine.specs.declared.answer.Did.{Did}
 use Rattle.msp430_machine.specs.declared.answer.Did.TheVariants.{Ran, Out, Slept, Ended as DidEnd, Trapped as DidTrap, Short, Fault}
@@ -205,10 +205,17 @@ junk_register junk v r above below =
 junk_word : (junk k : ℕ) → k < 1024 → slice_index (replicate 1024 junk) k ≡ junk
 junk_word junk k below = get_or-replicate 1024 k junk 0 below
 
+no_register : (junk v r : ℕ) → 16 ≤ r → slice_index (slice_set (replicate 16 junk) 0 v) r ≡ 0
+no_register junk v r above =
+    let other : r ≢ 0 = omega (arith, above) in
+    get_or-set_other (replicate 16 junk) 0 r v 0 other ∙ get_or_past (replicate 16 junk) r 0 (omega (arith, above, length-replicate 16 junk))
+
 cold_junk : (row : Refill) (m : Cells) → HoldsJunk row.junk (state_of (cold_cells row m))
 cold_junk row m = record {
   registers = λ r above below. junk_register row.junk (slice_index m.code 16383) r above below;
   sram = λ k below. junk_word row.junk k below;
+  no_more_registers = λ r above. no_register row.junk (slice_index m.code 16383) r above;
+  no_more_sram = λ k above. get_or_past (replicate 1024 row.junk) k 0 (omega (arith, above, length-replicate 1024 row.junk));
 }
 
 wake_junk : (p : Phase) (k : Bool) (row : Refill) (m : Cells) → row.keep ≡ k → woke p k ≡ Woke true → HoldsJunk row.junk (state_of (refilled_from p row m))

@@ -1,5 +1,5 @@
 -- The run of a device on rows, as it is emulated.
-use Rattle.std.specs.Prelude.{ℕ, ◌≡◌, ◌≢◌, ◌<◌, ◌++◌, true, List, [], ◌∷◌}
+use Rattle.std.specs.Prelude.{ℕ, ◌≡◌, ◌≢◌, ◌<◌, ◌≤◌, ◌++◌, true, List, [], ◌∷◌}
 use Rattle.board_table.specs.declared.board.Board.{Board}
 use Rattle.msp430_machine.specs.declared.answer.Refill.{Refill}
 use Rattle.msp430_machine.specs.State.{Phase, Off, Awake, Asleep, Ended, Trapped, Faulted, State}
@@ -12,10 +12,13 @@ use Rattle.power_core.specs.Cores.{event_of, woke}
 use Rattle.supplied_run.specs.declared.end.End.{End}
 use Rattle.supplied_run.specs.declared.end.End.TheVariants as end
 
--- the junk word stands in each register but PC, and in all of SRAM; the status register stands apart, as flags
+-- The junk word stands in each register but PC, and in all of SRAM; the status register stands apart, as flags. Behind the last
+-- register and the last word of SRAM there is nothing.
 pub record HoldsJunk (junk : ℕ) (s : State) : Type 0 where
   pub registers : (r : ℕ) → 0 < r → r < 16 → s.reg r ≡ junk
   pub sram : (k : ℕ) → k < 1024 → s.sram k ≡ junk
+  pub no_more_registers : (r : ℕ) → 16 ≤ r → s.reg r ≡ 0
+  pub no_more_sram : (k : ℕ) → 1024 ≤ k → s.sram k ≡ 0
 
 -- A row at whose wake registers and SRAM are lost leaves its junk word there: one choice of the many that a run may take.
 abbrev pub LeavesJunk : Asked → State → State → Type 0

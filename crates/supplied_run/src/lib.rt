@@ -7,4 +7,5 @@ mod running;
 mod turn;
 
 pub use end::End;
+pub use line::put_end;
 pub use running::run;

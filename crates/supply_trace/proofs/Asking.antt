@@ -1,6 +1,5 @@
 -- What asking one box after another comes to.
-use Rattle.std.proofs.Common.{◌≡◌, ◌∙◌, ◌++◌, ℕ, List, [], ◌∷◌, refl, sym, ap, length, arith, suc}
-use Rattle.std.specs.List.{remove}
+use Rattle.std.proofs.Common.{◌≡◌, ◌∙◌, ◌++◌, ℕ, List, [], ◌∷◌, Option, Some, None, option_to_list, refl, sym, ap, length, arith, suc}
 use Rattle.msp430_machine.specs.declared.answer.Refill.{Refill}
 use Rattle.supply_trace.specs.declared.supply.Given.{Given}
 use Rattle.supply_trace.specs.declared.supply.Given.TheVariants.{Row, Ended, Failed}
@@ -45,10 +44,15 @@ module _ {B : Type 0} (rows : B → List Refill) (faults : B → ℕ) where
   none_here b behind left e = rw e refl
 
   -- a box that has ended may be dropped
-  pub dropped : (before now : List B) → AsksFront rows faults Ended before now → unended rows (remove now 0) ≡ unended rows before
-  dropped [] now h = rw h.1 refl
-  dropped (b ∷ behind) [] h = absurd h
-  dropped (b ∷ behind) (c ∷ others) h = ap (unended rows) h.0 ∙ sym (none_here b behind (rows b) h.1.0)
+  pub dropped : (before now rest : List B) (front : Option B) → AsksFront rows faults Ended before now → now ≡ option_to_list front ++ rest → unended rows rest ≡ unended rows before
+  dropped [] now rest None h e = ap (unended rows) (sym e ∙ h.1)
+  dropped [] now rest (Some x) h e = absurd (let no : [] ≡ x ∷ rest = sym h.1 ∙ e in cc)
+  dropped (b ∷ behind) [] rest front h e = absurd h
+  dropped (b ∷ behind) (c ∷ others) rest None h e =
+      ap (unended rows) (sym e) ∙ none_here c others (rows c) h.1.1 ∙ ap (unended rows) h.0 ∙ sym (none_here b behind (rows b) h.1.0)
+  dropped (b ∷ behind) (c ∷ others) rest (Some x) h e =
+      let same : others ≡ rest = cc in
+      ap (unended rows) (sym same ∙ h.0) ∙ sym (none_here b behind (rows b) h.1.0)
 
   asked_here : (given : Given) (b : B) (behind now : List B) (left : List Refill) → rows b ≡ left → (given ≡ Ended → ⊥)
       → AsksFront rows faults given (b ∷ behind) now → AsksFront rows faults given (unended_or rows left (b ∷ behind) (unended rows behind)) now

@@ -4,13 +4,14 @@ ghost use Rattle.supply_trace.specs.Boxes.{AsksFront, ReplacesFront, TakesFront,
 ghost use Rattle.supply_trace.specs.Supplies.{CountsFault, TakesRow};
 
 use crate::{Given, Supply};
+use std::collections::VecDeque;
 use std::mem;
 
 /// Boxes, of which the front one is asked for a row where a wake is due, and dropped once it has ended. No call takes
 /// memory.
 #[derive(Drop)]
 pub struct Bench {
-    boxes: Vec<Box<dyn Supply>>,
+    boxes: VecDeque<Box<dyn Supply>>,
 }
 
 fn ask(front: &mut Box<dyn Supply>) -> Given
@@ -25,7 +26,9 @@ impl Bench {
     pub fn new(boxes: Vec<Box<dyn Supply>>) -> Bench
         ensures { boxes_of result ≡ boxes.items }
     {
-        Bench { boxes }
+        Bench {
+            boxes: VecDeque::from(boxes),
+        }
     }
 
     /// How many boxes are left.
@@ -39,18 +42,14 @@ impl Bench {
     pub fn boxes(self) -> Vec<Box<dyn Supply>>
         ensures { result.items ≡ boxes_of self }
     {
-        self.boxes
+        Vec::from(self.boxes)
     }
 
     /// Takes the front box out, with its rows, unasked.
     pub fn take_front(&mut self) -> Option<Box<dyn Supply>>
         ensures { TakesFront result (boxes_of self.old) (boxes_of self.new) }
     {
-        if self.boxes.is_empty() {
-            None
-        } else {
-            Some(self.boxes.remove(0))
-        }
+        self.boxes.pop_front()
     }
 
     /// Puts a box in the front one's place, and gives the front one back, with its rows, unasked.
@@ -79,7 +78,7 @@ impl Bench {
     {
         while !self.boxes.is_empty() {
             match self.ask_front() {
-                Given::Ended => drop(self.boxes.remove(0)),
+                Given::Ended => drop(self.boxes.pop_front()),
                 given => return given,
             }
         }

@@ -9,9 +9,9 @@ loop-self-smaller g c = search rules
 
 pub loop-self-preserved : goal.loop-self-preserved
 loop-self-preserved g c =
-    let rest = dropped (λ b. (goal.Supply-dyn g (b.vtable, b.value)).rows_left b.value) (λ b. (goal.Supply-dyn g (b.vtable, b.value)).supply_faults b.value)
-    c.loop-self.self.boxes.items c.ask_front.new.self.boxes.items c.in-Ended.ensures in
-    ap (unended (λ b. (goal.Supply-dyn g (b.vtable, b.value)).rows_left b.value)) c.remove.ensures.items ∙ rest ∙ c.loop-self.invariant
+    dropped (λ b. (goal.Supply-dyn g (b.vtable, b.value)).rows_left b.value) (λ b. (goal.Supply-dyn g (b.vtable, b.value)).supply_faults b.value)
+    c.loop-self.self.boxes.items c.ask_front.new.self.boxes.items c.pop_front.new.self.items c.pop_front.result c.in-Ended.ensures c.pop_front.ensures.items
+    ∙ c.loop-self.invariant
 
 pub returns-in_default : goal.returns-in_default
 returns-in_default g c =
