@@ -1,0 +1,4 @@
+pub mod Syntax
+pub mod Types
+pub mod Readings
+pub mod Putting

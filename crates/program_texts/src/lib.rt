@@ -1,0 +1,18 @@
+//! The text of a program: which program it is, or its first fault; and the text that a program's plain meaning shows.
+#![tactic(auto)]
+
+mod fault;
+mod front;
+mod laws;
+mod showing;
+#[cfg(test)]
+mod tests;
+#[cfg(test)]
+mod typing_rows;
+#[cfg(test)]
+mod typing_tests;
+
+pub use fault::{ProgramFault, ProgramRefusal};
+pub use front::program_of;
+pub use laws::one_reading;
+pub use showing::show;
