@@ -1,12 +1,14 @@
 -- A build that was done keeps the whole promise.
-use Rattle.std.proofs.Common.{List, Option, Some, None}
+use Rattle.std.proofs.Common.{List, Option, Some, None, ⊎_elim}
 use Rattle.base_io.specs.Files.{Files}
 use Rattle.emit_layout.specs.Straight.{straight_blocks}
 use Rattle.emit_layout.specs.StraightTheorem.{AreStraightHeld, AreStraightImages, StraightImagesAgree, StraightImagesEndure}
-use Rattle.commands.specs.Words.{Text}
+use Rattle.commands.specs.Words.{Text, Build, AskBuild}
 use Rattle.commands.specs.Answers.{done}
 use Rattle.commands.specs.Left.{AskedAndBuilt, LeavesTold}
 use Rattle.commands.specs.Headline.{IsKept, IsKeptTold}
+use Rattle.commands.proofs.Asks.{build_or_say}
+use Rattle.commands.proofs.Clauses.{build_or_run}
 
 module _ (agree : StraightImagesAgree) (endure : StraightImagesEndure) (images : AreStraightImages) (held : AreStraightHeld) (words : List Text) where
   kept : (old new : Files) → AskedAndBuilt words old new → IsKept words old new
@@ -29,8 +31,8 @@ module _ (agree : StraightImagesAgree) (endure : StraightImagesEndure) (images :
     endures = endure b.board b.statements (b.fine.program.valid, b.fine.program.few);
   }
 
-  pub kept_told : (old new : Option Files) → LeavesTold words done old new → IsKeptTold words old new
-  kept_told None None h = tt
-  kept_told (Some old) None h = h
-  kept_told None (Some new) h = h
-  kept_told (Some old) (Some new) h = kept old new h
+  pub kept_told : (job : Build) → AskBuild words job → (old new : Option Files) → LeavesTold words done old new → IsKeptTold words old new
+  kept_told job asks None None h = tt
+  kept_told job asks (Some old) None h = h
+  kept_told job asks None (Some new) h = h
+  kept_told job asks (Some old) (Some new) h = ⊎_elim (kept old new) (λ kept. absurd (⊎_elim (λ ran. build_or_run words job ran.0 asks ran.1) (λ said. build_or_say words job said.0 asks said.1) kept.0)) h

@@ -2,111 +2,30 @@
 use Rattle.std.proofs.Common.{◌≡◌, ◌<◌, ◌≤◌, ℕ, List, Option, Some, None, sym, subst, ap, ap₂, ◌∙◌, refl, inl, inr, arith}
 use Rattle.std.specs.Prelude.{length, ◌+◌, ◌++◌, ◌∷◌, IsSomeAnd, unwrap_or}
 use Rattle.base_io.specs.Files.{Files}
-use Rattle.board_table.specs.Faults.{Fault, not_toml, missing, out_of_range, extra}
-use Rattle.board_table.specs.File.{IsRefused as IsRefusedBoard}
-use Rattle.board_table.proofs.Exact.{one_board, board_or_fault, one_fault}
-use Rattle.board_table.proofs.SameBoard.{board_same}
-use Rattle.board_table.specs.Reading.{access_numbers, core_numbers}
-use Rattle.board_table.specs.declared.board.Access.{Access}
+use Rattle.board_table.proofs.Exact.{board_or_fault, one_fault}
 use Rattle.board_table.specs.declared.board.Board.{Board}
-use Rattle.board_table.specs.declared.board.Core.{Core}
 use Rattle.emit_layout.specs.Straight.{straight_need}
 use Rattle.straight_programs.specs.Text.{IsNoProgram, IsProgram}
 use Rattle.straight_programs.proofs.Spelling.{one_list}
 use Rattle.straight_programs.specs.declared.program.Statement.{Statement}
 use Rattle.job_parts.specs.Asked.{asked}
-use Rattle.commands.specs.Words.{Text, Build, AskBuild, AskUnbuilt}
+use Rattle.commands.specs.Words.{Text, Build, Run, Say, AskBuild, AskRun, AskSay, AskUnbuilt}
 use Rattle.commands.specs.Budget.{IsBoardWith}
-use Rattle.commands.proofs.Clauses.{asks_once, one_build, some_none}
-use Rattle.commands.specs.Answers.{Answer, done, usage, read_fault, write_fault, no_memory, board_refused, too_large, not_built, needs_checkpoint}
-use Rattle.commands.specs.Causes.{AreRead, AreRefused, AsksFor, Causes, HasCause, IsFine, IsNoBoard, IsReached, IsRead, IsRefused, IsTooDear, most_bytes}
+use Rattle.commands.proofs.Asks.{build_or_say, one_say, run_or_say, say_asks_once, some_none}
+use Rattle.commands.proofs.Clauses.{asks_once, build_or_run, one_build, one_run, run_asks_once}
+use Rattle.commands.proofs.OneBoard.{named, one_board_with, refusal_same, refused_as}
+use Rattle.commands.proofs.OneRunCause.{Finding as RunFinding, one_finding as one_run_finding, run_finding}
+use Rattle.commands.proofs.OneSayCause.{Finding as SayFinding, one_finding as one_say_finding, say_finding}
+use Rattle.commands.specs.Answers.{Answer, done, usage, read_fault, write_fault, no_memory, board_refused, too_large, not_built, needs_checkpoint, image_refused, program_refused, text_refused, stopped}
+use Rattle.commands.specs.Running.{Box, IsNoBoard, RunCauses}
+use Rattle.commands.specs.Causes.{AreRead, AreRefused, AsksFor, Causes, HasCause, IsFine, IsReached, IsRead, IsRefused, IsTooDear, most_bytes}
 use Rattle.commands.specs.Faults.{IsDecided}
 use Rattle.commands.specs.Laws.{DecideOne}
 use Rattle.commands.specs.declared.status.BoardRefusal.{BoardRefusal}
-use Rattle.commands.specs.declared.status.BoardRefusal.TheVariants as refusal
 use Rattle.commands.specs.declared.status.Unbuilt.TheVariants.{Words, Program}
 
 some_same : {A : Type 0} (x y : A) → (let s : Option A = Some x in s ≡ Some y) → x ≡ y
 some_same x y e = cc
-
--- ---- Boards
-
--- the fault of a board file by its name and key
-abbrev named : BoardRefusal → Text → Fault
-named refusal.NotToml key = not_toml
-named refusal.Missing key = missing key
-named refusal.OutOfRange key = out_of_range key
-named refusal.Extra key = extra key
-
-refused_as : (bytes : Text) (kind : BoardRefusal) (key : Text) → IsNoBoard bytes kind key → IsRefusedBoard bytes (named kind key)
-refused_as bytes refusal.NotToml key h = h.1
-refused_as bytes refusal.Missing key h = h
-refused_as bytes refusal.OutOfRange key h = h
-refused_as bytes refusal.Extra key h = h
-
-not_toml_missing : (k : Text) → not_toml ≡ missing k → ⊥
-not_toml_missing k e = cc
-
-not_toml_out : (k : Text) → not_toml ≡ out_of_range k → ⊥
-not_toml_out k e = cc
-
-not_toml_extra : (k : Text) → not_toml ≡ extra k → ⊥
-not_toml_extra k e = cc
-
-missing_out : (k l : Text) → missing k ≡ out_of_range l → ⊥
-missing_out k l e = cc
-
-missing_extra : (k l : Text) → missing k ≡ extra l → ⊥
-missing_extra k l e = cc
-
-out_extra : (k l : Text) → out_of_range k ≡ extra l → ⊥
-out_extra k l e = cc
-
-missing_same : (k l : Text) → missing k ≡ missing l → k ≡ l
-missing_same k l e = cc
-
-out_same : (k l : Text) → out_of_range k ≡ out_of_range l → k ≡ l
-out_same k l e = cc
-
-extra_same : (k l : Text) → extra k ≡ extra l → k ≡ l
-extra_same k l e = cc
-
-refusal_same : (bytes : Text) (a b : BoardRefusal) (k l : Text) → IsNoBoard bytes a k → IsNoBoard bytes b l → named a k ≡ named b l → board_refused a k ≡ board_refused b l
-refusal_same bytes refusal.NotToml refusal.NotToml k l h g e = ap (λ x. board_refused refusal.NotToml x) (h.0 ∙ sym g.0)
-refusal_same bytes refusal.NotToml refusal.Missing k l h g e = absurd (not_toml_missing l e)
-refusal_same bytes refusal.NotToml refusal.OutOfRange k l h g e = absurd (not_toml_out l e)
-refusal_same bytes refusal.NotToml refusal.Extra k l h g e = absurd (not_toml_extra l e)
-refusal_same bytes refusal.Missing refusal.NotToml k l h g e = absurd (not_toml_missing k (sym e))
-refusal_same bytes refusal.Missing refusal.Missing k l h g e = ap (λ x. board_refused refusal.Missing x) (missing_same k l e)
-refusal_same bytes refusal.Missing refusal.OutOfRange k l h g e = absurd (missing_out k l e)
-refusal_same bytes refusal.Missing refusal.Extra k l h g e = absurd (missing_extra k l e)
-refusal_same bytes refusal.OutOfRange refusal.NotToml k l h g e = absurd (not_toml_out k (sym e))
-refusal_same bytes refusal.OutOfRange refusal.Missing k l h g e = absurd (missing_out l k (sym e))
-refusal_same bytes refusal.OutOfRange refusal.OutOfRange k l h g e = ap (λ x. board_refused refusal.OutOfRange x) (out_same k l e)
-refusal_same bytes refusal.OutOfRange refusal.Extra k l h g e = absurd (out_extra k l e)
-refusal_same bytes refusal.Extra refusal.NotToml k l h g e = absurd (not_toml_extra k (sym e))
-refusal_same bytes refusal.Extra refusal.Missing k l h g e = absurd (missing_extra l k (sym e))
-refusal_same bytes refusal.Extra refusal.OutOfRange k l h g e = absurd (out_extra l k (sym e))
-refusal_same bytes refusal.Extra refusal.Extra k l h g e = ap (λ x. board_refused refusal.Extra x) (extra_same k l e)
-
-abbrev BoardValues : Type 0
-BoardValues = ℕ × Core × Access
-
-same_board : (b c : Board) → b.budget ≡ c.budget → b.core ≡ c.core → b.access ≡ c.access → b ≡ c
-same_board b c budget core access =
-    let values : BoardValues = (b.budget, b.core, b.access) in
-    let others : BoardValues = (c.budget, c.core, c.access) in
-    let same : values ≡ others = cc in
-    board_same b c (ap (λ (v : BoardValues). v.0 ∷ core_numbers v.1 ++ access_numbers v.2) same)
-
--- a file and the budget that is wanted give one board
-one_board_with : (wanted : Option ℕ) (bytes : Text) (b c : Board) → IsBoardWith wanted bytes b → IsBoardWith wanted bytes c → b ≡ c
-one_board_with wanted bytes b c h k =
-    let own = one_board bytes h.own k.own h.is_board k.is_board in
-    same_board b c
-    (h.budget ∙ ap (λ (x : Board). unwrap_or wanted x.budget) own ∙ sym k.budget)
-    (h.core ∙ ap (λ (x : Board). x.core) own ∙ sym k.core)
-    (h.access ∙ ap (λ (x : Board). x.access) own ∙ sym k.access)
 
 -- ---- Two texts come to one answer
 
@@ -205,6 +124,10 @@ module _ (job : Build) (files : Files) where
   refused_verdict text bytes (read_fault name) d h = absurd h
   refused_verdict text bytes (write_fault name) d h = absurd h
   refused_verdict text bytes (too_large name seen) d h = absurd h
+  refused_verdict text bytes (program_refused fault place) d h = absurd h
+  refused_verdict text bytes (image_refused fault at) d h = absurd h
+  refused_verdict text bytes (text_refused name at) d h = absurd h
+  refused_verdict text bytes (stopped stop) d h = absurd h
 
   refused_finding : (a : Answer) → IsDecided a → AreRefused job files a → Finding job files a
   refused_finding a d (text, bytes, r, h) = found text bytes a r (refused_verdict text bytes a d h)
@@ -224,19 +147,27 @@ module _ (job : Build) (files : Files) where
   finding (not_built Program) d h = refused_finding (not_built Program) d h
   finding (board_refused kind key) d h = refused_finding (board_refused kind key) d h
   finding (needs_checkpoint need budget) d h = refused_finding (needs_checkpoint need budget) d h
+  finding (program_refused fault place) d h = absurd h
+  finding (image_refused fault at) d h = absurd h
+  finding (text_refused name at) d h = absurd h
+  finding (stopped stop) d h = absurd h
 
--- ---- Words and files
+-- ---- Words, files and boxes
 
-data Decision (words : List Text) (files : Files) : Answer → Type 0 where
-  unread : asked words ≡ None → Decision words files usage
-  unbuilt : AskUnbuilt words → Decision words files (not_built Words)
-  asked_for : (job : Build) (a : Answer) → AskBuild words job → Finding job files a → Decision words files a
+data Decision (words : List Text) (files : Files) (boxes : List Box) : Answer → Type 0 where
+  unread : asked words ≡ None → Decision words files boxes usage
+  unbuilt : AskUnbuilt words → Decision words files boxes (not_built Words)
+  build_asked : (job : Build) (a : Answer) → AskBuild words job → Finding job files a → Decision words files boxes a
+  run_asked : (job : Run) (a : Answer) → AskRun words job → RunFinding job files boxes a → Decision words files boxes a
+  say_asked : (job : Say) (a : Answer) → AskSay words job → SayFinding job files a → Decision words files boxes a
 
-module _ (words : List Text) (files : Files) where
-  asks : (a : Answer) → IsDecided a → AsksFor words files a → Decision words files a
-  asks a d (job, e, h) = asked_for job a e (finding job files a d h)
+module _ (words : List Text) (files : Files) (boxes : List Box) where
+  asks : (a : Answer) → IsDecided a → AsksFor words files boxes a → Decision words files boxes a
+  asks a d (inl (job, e, h)) = build_asked job a e (finding job files a d h)
+  asks a d (inr (inl (job, e, h))) = run_asked job a e (run_finding job files boxes a d h)
+  asks a d (inr (inr (job, e, h))) = say_asked job a e (say_finding job files a d h)
 
-  decision : (a : Answer) → IsDecided a → HasCause words files a → Decision words files a
+  decision : (a : Answer) → IsDecided a → HasCause words files boxes a → Decision words files boxes a
   decision usage d h = unread h
   decision (not_built Words) d h = unbuilt h
   decision (not_built Program) d h = asks (not_built Program) d h
@@ -247,18 +178,40 @@ module _ (words : List Text) (files : Files) where
   decision (board_refused kind key) d h = asks (board_refused kind key) d h
   decision (too_large name seen) d h = asks (too_large name seen) d h
   decision (needs_checkpoint need budget) d h = asks (needs_checkpoint need budget) d h
+  decision (program_refused fault place) d h = asks (program_refused fault place) d h
+  decision (image_refused fault at) d h = asks (image_refused fault at) d h
+  decision (text_refused name at) d h = asks (text_refused name at) d h
+  decision (stopped stop) d h = asks (stopped stop) d h
 
-  one_decision : (a b : Answer) → Decision words files a → Decision words files b → a ≡ b
+  one_decision : (a b : Answer) → Decision words files boxes a → Decision words files boxes b → a ≡ b
   one_decision _ _ (unread e) (unread f) = refl
   one_decision _ _ (unread e) (unbuilt f) = absurd (some_none (asked words) f.request f.asks e)
-  one_decision _ _ (unread e) (asked_for job b f k) = absurd (asks_once words job f (inl e))
+  one_decision _ _ (unread e) (build_asked job b f k) = absurd (asks_once words job f (inl e))
+  one_decision _ _ (unread e) (run_asked job b f k) = absurd (run_asks_once words job f (inl e))
+  one_decision _ _ (unread e) (say_asked job b f k) = absurd (say_asks_once words job f (inl e))
   one_decision _ _ (unbuilt e) (unread f) = absurd (some_none (asked words) e.request e.asks f)
   one_decision _ _ (unbuilt e) (unbuilt f) = refl
-  one_decision _ _ (unbuilt e) (asked_for job b f k) = absurd (asks_once words job f (inr e))
-  one_decision _ _ (asked_for job a e h) (unread f) = absurd (asks_once words job e (inl f))
-  one_decision _ _ (asked_for job a e h) (unbuilt f) = absurd (asks_once words job e (inr f))
-  one_decision _ _ (asked_for job a e h) (asked_for also b f k) =
+  one_decision _ _ (unbuilt e) (build_asked job b f k) = absurd (asks_once words job f (inr e))
+  one_decision _ _ (unbuilt e) (run_asked job b f k) = absurd (run_asks_once words job f (inr e))
+  one_decision _ _ (unbuilt e) (say_asked job b f k) = absurd (say_asks_once words job f (inr e))
+  one_decision _ _ (build_asked job a e h) (unread f) = absurd (asks_once words job e (inl f))
+  one_decision _ _ (build_asked job a e h) (unbuilt f) = absurd (asks_once words job e (inr f))
+  one_decision _ _ (build_asked job a e h) (build_asked also b f k) =
       one_finding job files a b h (subst (λ p. Finding p files b) (one_build words also job f e) k)
+  one_decision _ _ (build_asked job a e h) (run_asked also b f k) = absurd (build_or_run words job also e f)
+  one_decision _ _ (build_asked job a e h) (say_asked also b f k) = absurd (build_or_say words job also e f)
+  one_decision _ _ (run_asked job a e h) (unread f) = absurd (run_asks_once words job e (inl f))
+  one_decision _ _ (run_asked job a e h) (unbuilt f) = absurd (run_asks_once words job e (inr f))
+  one_decision _ _ (run_asked job a e h) (build_asked also b f k) = absurd (build_or_run words also job f e)
+  one_decision _ _ (run_asked job a e h) (run_asked also b f k) =
+      one_run_finding job files boxes a b h (subst (λ p. RunFinding p files boxes b) (one_run words also job f e) k)
+  one_decision _ _ (run_asked job a e h) (say_asked also b f k) = absurd (run_or_say words job also e f)
+  one_decision _ _ (say_asked job a e h) (unread f) = absurd (say_asks_once words job e (inl f))
+  one_decision _ _ (say_asked job a e h) (unbuilt f) = absurd (say_asks_once words job e (inr f))
+  one_decision _ _ (say_asked job a e h) (build_asked also b f k) = absurd (build_or_say words also job f e)
+  one_decision _ _ (say_asked job a e h) (run_asked also b f k) = absurd (run_or_say words also job f e)
+  one_decision _ _ (say_asked job a e h) (say_asked also b f k) =
+      one_say_finding job files a b h (subst (λ p. SayFinding p files b) (one_say words also job f e) k)
 
 pub decide_one : DecideOne
-decide_one words files a b d e h k = one_decision words files a b (decision words files a d h) (decision words files b e k)
+decide_one words files boxes a b d e h k = one_decision words files boxes a b (decision words files boxes a d h) (decision words files boxes b e k)

@@ -3,7 +3,7 @@ use Rattle.std.proofs.Common.{◌≡◌, ◌*◌, ℕ, Option, Some, None, Resul
 use Rattle.std.specs.Prelude.{string_bytes}
 use Rattle.base_io.specs.Files.{Files}
 use Rattle.commands.specs.Words.{Text, Build}
-use Rattle.commands.specs.Answers.{Answer, answer_of, built_line, done, usage, read_fault, write_fault, no_memory, board_refused, too_large, not_built, needs_checkpoint}
+use Rattle.commands.specs.Answers.{Answer, answer_of, built_line, done, usage, read_fault, write_fault, no_memory, board_refused, too_large, not_built, needs_checkpoint, image_refused, program_refused, text_refused, stopped}
 use Rattle.commands.specs.Causes.{AreRead, Causes, IsRead, IsRefused}
 use Rattle.commands.specs.Parts.{IsReady, IsReadyOf}
 use Rattle.commands.specs.Job.{code_size}
@@ -25,6 +25,10 @@ module _ (job : Build) (files : Files) (text bytes : Text) (read : AreRead job f
   refused (read_fault name) h = absurd h
   refused (write_fault name) h = absurd h
   refused (too_large name seen) h = absurd h
+  refused (program_refused fault place) h = absurd h
+  refused (image_refused fault at) h = absurd h
+  refused (text_refused name at) h = absurd h
+  refused (stopped stop) h = absurd h
 
   joined : (r : Result Ready Status) →
       MatchResult r (λ x. IsReadyOf job.budget text bytes x.text.items (string_bytes x.line)) (λ s. IsRefused job.budget text bytes (answer_of s)) →

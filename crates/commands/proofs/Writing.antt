@@ -5,11 +5,11 @@ use Rattle.base_io.specs.declared.memory.Memory.{Memory}
 use Rattle.base_io.specs.Counts.{Rose}
 use Rattle.base_io.specs.Files.{Files, Writes, WritesTold}
 use Rattle.commands.specs.Words.{Text, Build}
-use Rattle.commands.specs.Answers.{Answer, answer_of, built_line, done, usage, read_fault, write_fault, no_memory, board_refused, too_large, not_built, needs_checkpoint}
+use Rattle.commands.specs.Answers.{Answer, answer_of, built_line, done, usage, read_fault, write_fault, no_memory, board_refused, too_large, not_built, needs_checkpoint, image_refused, program_refused, text_refused, stopped}
 use Rattle.commands.specs.Causes.{AreFine}
 use Rattle.commands.specs.Job.{Ends, IsBuiltTold, IsDoneLine, IsUnwritten, Seen}
 use Rattle.commands.specs.Parts.{IsReady, IsWritten}
-use Rattle.commands.specs.declared.job.Ending.{Ending}
+use Rattle.commands.specs.declared.ending.Ending.{Ending}
 
 fine_told : (o : Option Files) (job : Build) (text line : Text) → IfSome o (λ files. IsReady job files text line) → IfSome o (λ files. AreFine job files)
 fine_told None job text line h = tt
@@ -77,6 +77,10 @@ module _ (job : Build) (old mid new : Seen) (files : mid.files ≡ old.files) (w
   ends (too_large name seen) l h = absurd h
   ends (not_built what) l h = absurd h
   ends (needs_checkpoint need budget) l h = absurd h
+  ends (program_refused fault place) l h = absurd h
+  ends (image_refused fault at) l h = absurd h
+  ends (text_refused name at) l h = absurd h
+  ends (stopped stop) l h = absurd h
 
   unwritten : IsUnwritten mid new → IsUnwritten old new
   unwritten h = record { files = h.files ∙ files; writes = h.writes ∙ writes; reads = subst (λ k. k ≤ new.reads) reads h.reads }

@@ -1,11 +1,14 @@
 -- What a whole call comes to: how its job ends, and what is put of it.
 use Rattle.std.specs.Prelude.{◌≡◌, ◌≤◌, ◌⊎◌, ◌++◌, ℕ, List, [], length, take, Option, Some, None, ⊤}
 use Rattle.base_io.specs.Counts.{Rose}
-use Rattle.job_parts.specs.Asked.{Request, Task, asked, build}
-use Rattle.commands.specs.Words.{Text}
+use Rattle.job_parts.specs.Asked.{Request, Task, asked, build, run, say}
+use Rattle.commands.specs.Words.{Text, Run, Say, AskRun, AskSay}
 use Rattle.commands.specs.Answers.{Answer, usage, write_fault, no_memory, not_built, line_of}
 use Rattle.commands.specs.Job.{Ends, IsUnwritten, Seen}
 use Rattle.commands.specs.Causes.{output}
+use Rattle.commands.specs.Running.{Box}
+use Rattle.commands.specs.RunJob.{HasRun, IsPartlyLoaded, RunEnds}
+use Rattle.commands.specs.SayJob.{HasSaid, SayEnds}
 use Rattle.commands.specs.declared.status.Unbuilt.TheVariants.{Words}
 
 -- the words are refused, and no file is touched
@@ -16,25 +19,30 @@ pub record IsRefusedAtOnce (refusal : Answer) (old new : Seen) (a : Answer) (lin
   pub reads : new.reads ≡ old.reads
   pub tells : line ≡ line_of [] a
 
--- how a job ends, under the budget that is asked for
-abbrev pub TaskEnds : Task → Option ℕ → Seen → Seen → Answer → Text → Type 0
-TaskEnds (build program board image certificate) budget old new a line =
-    Ends (record { program = program; board = board; image = image; certificate = certificate; budget = budget }) old new a line
-TaskEnds task budget old new a line = IsRefusedAtOnce (not_built Words) old new a line
+-- how a job ends that puts one line, under the budget and the number of steps that are asked for
+abbrev pub TaskEnds : Task → Option ℕ → ℕ → Seen → Seen → List Box → List Box → Answer → Text → Type 0
+TaskEnds (build program board image certificate) budget steps old new before now a line =
+    Ends (record { program = program; board = board; image = image; certificate = certificate; budget = budget }) old new a line × (now ≡ before)
+TaskEnds (run image board input supplies) budget steps old new before now a line =
+    RunEnds (record { image = image; board = board; input = input; supplies = supplies; budget = budget; steps = steps }) old new before now a line
+TaskEnds (say program input) budget steps old new before now a line =
+    SayEnds (record { program = program; input = input; steps = steps }) old new a line × (now ≡ before)
+TaskEnds task budget steps old new before now a line = IsRefusedAtOnce (not_built Words) old new a line × (now ≡ before)
 
 -- how the job of the words ends
-abbrev pub ComesTo : Option Request → Seen → Seen → Answer → Text → Type 0
-ComesTo None old new a line = IsRefusedAtOnce usage old new a line
-ComesTo (Some r) old new a line = TaskEnds r.task r.budget old new a line
+abbrev pub ComesTo : Option Request → Seen → Seen → List Box → List Box → Answer → Text → Type 0
+ComesTo None old new before now a line = IsRefusedAtOnce usage old new a line × (now ≡ before)
+ComesTo (Some r) old new before now a line = TaskEnds r.task r.budget r.steps old new before now a line
 
 -- there was no memory, before anything was written
-pub record IsGivenUp (old new : Seen) (a : Answer) (line : Text) : Type 0 where
+pub record IsGivenUp (old new : Seen) (before now : List Box) (a : Answer) (line : Text) : Type 0 where
   pub answer : a ≡ no_memory
   pub kept : IsUnwritten old new
+  pub boxes : IsPartlyLoaded before now
   pub tells : line ≡ line_of [] no_memory
 
-abbrev pub Comes : List Text → Seen → Seen → Answer → Text → Type 0
-Comes words old new a line = ComesTo (asked words) old new a line ⊎ IsGivenUp old new a line
+abbrev pub Comes : List Text → Seen → Seen → List Box → List Box → Answer → Text → Type 0
+Comes words old new before now a line = ComesTo (asked words) old new before now a line ⊎ IsGivenUp old new before now a line
 
 -- ---- The output: what it tells, and its count of faults
 
@@ -79,8 +87,25 @@ Puts came line old new a = IsWholePut came line old new a ⊎ IsFailedPut line o
 
 -- The job came to an answer with its line. The line was put and is the answer's, or the output failed behind a front of it, or there was no
 -- memory for the name of the output, and then nothing was put.
-pub record Ran (words : List Text) (old new : Seen) (sunk now : Sunk) (a : Answer) : Type 0 where
+pub record Ran (words : List Text) (old new : Seen) (before left : List Box) (sunk now : Sunk) (a : Answer) : Type 0 where
   pub came : Answer
   pub line : Text
-  pub comes : Comes words old new came line
+  pub comes : Comes words old new before left came line
   pub puts : Puts came line sunk now a ⊎ (IsNotPut sunk now a × (came ≡ no_memory))
+
+-- a run that the words ask for has begun
+pub record Begun (words : List Text) (old new : Seen) (before left : List Box) (sunk now : Sunk) (a : Answer) : Type 0 where
+  pub job : Run
+  pub asks : AskRun words job
+  pub has_run : HasRun job old new before left sunk.told now.told sunk.faults now.faults a
+
+-- a say that the words ask for has begun
+pub record Spoken (words : List Text) (old new : Seen) (before left : List Box) (sunk now : Sunk) (a : Answer) : Type 0 where
+  pub job : Say
+  pub asks : AskSay words job
+  pub boxes : left ≡ before
+  pub has_said : HasSaid job old new sunk.told now.told sunk.faults now.faults a
+
+abbrev pub Called : List Text → Seen → Seen → List Box → List Box → Sunk → Sunk → Answer → Type 0
+Called words old new before left sunk now a =
+    Ran words old new before left sunk now a ⊎ (Begun words old new before left sunk now a ⊎ Spoken words old new before left sunk now a)

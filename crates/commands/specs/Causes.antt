@@ -1,28 +1,20 @@
--- Why a build answers what it answers, by its words and by the files of a store that tells them.
+-- Why a call answers what it answers, by its words, by the files of a store that tells them, and by what the boxes hold.
 use Rattle.std.specs.Prelude.{◌≡◌, ◌≢◌, ◌<◌, ◌≤◌, ◌⊎◌, ◌+◌, ℕ, List, [], length, Option, Some, None, IsSomeAnd, codes, ⊤}
 use Rattle.base_io.specs.Files.{Files}
-use Rattle.board_table.specs.Faults.{not_toml, missing, out_of_range, extra}
-use Rattle.board_table.specs.File.{IsRefused as IsRefusedBoard}
 use Rattle.board_table.specs.declared.board.Board.{Board}
 use Rattle.emit_layout.specs.Straight.{straight_need}
 use Rattle.straight_programs.specs.Text.{IsNoProgram, IsProgram}
 use Rattle.straight_programs.specs.declared.program.Statement.{Statement}
 use Rattle.job_parts.specs.Asked.{asked}
-use Rattle.commands.specs.Words.{Text, Build, AskBuild, AskUnbuilt}
+use Rattle.commands.specs.Words.{Text, Build, Run, Say, AskBuild, AskRun, AskSay, AskUnbuilt}
 use Rattle.commands.specs.Budget.{IsBoardWith}
-use Rattle.commands.specs.Answers.{Answer, done, usage, read_fault, write_fault, no_memory, board_refused, too_large, not_built, needs_checkpoint}
-use Rattle.commands.specs.declared.status.BoardRefusal.{BoardRefusal}
-use Rattle.commands.specs.declared.status.BoardRefusal.TheVariants as refusal
+use Rattle.commands.specs.Reads.{IsHad}
+use Rattle.commands.specs.Running.{Box, IsNoBoard, RunCauses}
+use Rattle.commands.specs.Saying.{SayCauses}
+use Rattle.commands.specs.Answers.{Answer, done, usage, read_fault, write_fault, no_memory, board_refused, too_large, not_built, needs_checkpoint, image_refused, program_refused, text_refused, stopped}
 use Rattle.commands.specs.declared.status.Unbuilt.TheVariants.{Words, Program}
 
 -- ---- The texts
-
--- the bytes are no board, for this reason
-abbrev pub IsNoBoard : Text → BoardRefusal → Text → Type 0
-IsNoBoard bytes refusal.NotToml key = (key ≡ []) × IsRefusedBoard bytes not_toml
-IsNoBoard bytes refusal.Missing key = IsRefusedBoard bytes (missing key)
-IsNoBoard bytes refusal.OutOfRange key = IsRefusedBoard bytes (out_of_range key)
-IsNoBoard bytes refusal.Extra key = IsRefusedBoard bytes (extra key)
 
 -- a program and a board on which it needs more than the budget
 pub record IsTooDear (wanted : Option ℕ) (text bytes : Text) (need budget : ℕ) : Type 0 where
@@ -52,6 +44,10 @@ IsRefused wanted text bytes usage = ⊥
 IsRefused wanted text bytes (read_fault name) = ⊥
 IsRefused wanted text bytes (write_fault name) = ⊥
 IsRefused wanted text bytes (too_large name seen) = ⊥
+IsRefused wanted text bytes (image_refused fault at) = ⊥
+IsRefused wanted text bytes (program_refused fault place) = ⊥
+IsRefused wanted text bytes (text_refused name at) = ⊥
+IsRefused wanted text bytes (stopped stop) = ⊥
 
 -- ---- The files
 
@@ -60,9 +56,8 @@ abbrev pub most_bytes : ℕ
 most_bytes = 65536
 
 -- the file is there, and is short enough to be read
-pub record IsRead (files : Files) (name text : Text) : Type 0 where
-  pub there : files name ≡ Some text
-  pub short : length text ≤ most_bytes
+abbrev pub IsRead : Files → Text → Text → Type 0
+IsRead files name text = IsHad files most_bytes name text
 
 -- the file is one of the two that are read, and those before it are read
 abbrev pub IsReached : Build → Files → Text → Type 0
@@ -91,24 +86,45 @@ Causes job files (not_built Words) = ⊥
 Causes job files (not_built Program) = AreRefused job files (not_built Program)
 Causes job files (board_refused kind key) = AreRefused job files (board_refused kind key)
 Causes job files (needs_checkpoint need budget) = AreRefused job files (needs_checkpoint need budget)
+Causes job files (image_refused fault at) = ⊥
+Causes job files (program_refused fault place) = ⊥
+Causes job files (text_refused name at) = ⊥
+Causes job files (stopped stop) = ⊥
+
+-- a build that the words ask for comes to this answer
+abbrev pub AsksBuild : List Text → Files → Answer → Type 0
+AsksBuild words files a = (job : Build) × AskBuild words job × Causes job files a
+
+-- a run that the words ask for comes to this answer
+abbrev pub AsksRun : List Text → Files → List Box → Answer → Type 0
+AsksRun words files boxes a = (job : Run) × AskRun words job × RunCauses job files boxes a
+
+-- a say that the words ask for comes to this answer
+abbrev pub AsksSay : List Text → Files → Answer → Type 0
+AsksSay words files a = (job : Say) × AskSay words job × SayCauses job files a
 
 -- what the words ask for comes to this answer
-abbrev pub AsksFor : List Text → Files → Answer → Type 0
-AsksFor words files a = (job : Build) × AskBuild words job × Causes job files a
+abbrev pub AsksFor : List Text → Files → List Box → Answer → Type 0
+AsksFor words files boxes a = AsksBuild words files a ⊎ (AsksRun words files boxes a ⊎ AsksSay words files a)
 
 -- the name of the output
 abbrev pub output : Text
 output = codes "-"
 
--- why a call comes to each answer; that the output failed says nothing of the words and files
-abbrev pub HasCause : List Text → Files → Answer → Type 0
-HasCause words files usage = asked words ≡ None
-HasCause words files (not_built Words) = AskUnbuilt words
-HasCause words files (not_built Program) = AsksFor words files (not_built Program)
-HasCause words files no_memory = ⊤
-HasCause words files (write_fault name) = name ≢ output → AsksFor words files (write_fault name)
-HasCause words files done = AsksFor words files done
-HasCause words files (read_fault name) = AsksFor words files (read_fault name)
-HasCause words files (board_refused kind key) = AsksFor words files (board_refused kind key)
-HasCause words files (too_large name seen) = AsksFor words files (too_large name seen)
-HasCause words files (needs_checkpoint need budget) = AsksFor words files (needs_checkpoint need budget)
+-- Why a call comes to each answer, by its words, the files and what the boxes hold as it begins; that the output failed says
+-- nothing of them.
+abbrev pub HasCause : List Text → Files → List Box → Answer → Type 0
+HasCause words files boxes usage = asked words ≡ None
+HasCause words files boxes (not_built Words) = AskUnbuilt words
+HasCause words files boxes (not_built Program) = AsksFor words files boxes (not_built Program)
+HasCause words files boxes no_memory = ⊤
+HasCause words files boxes (write_fault name) = name ≢ output → AsksFor words files boxes (write_fault name)
+HasCause words files boxes done = AsksFor words files boxes done
+HasCause words files boxes (read_fault name) = AsksFor words files boxes (read_fault name)
+HasCause words files boxes (board_refused kind key) = AsksFor words files boxes (board_refused kind key)
+HasCause words files boxes (too_large name seen) = AsksFor words files boxes (too_large name seen)
+HasCause words files boxes (needs_checkpoint need budget) = AsksFor words files boxes (needs_checkpoint need budget)
+HasCause words files boxes (image_refused fault at) = AsksFor words files boxes (image_refused fault at)
+HasCause words files boxes (program_refused fault place) = AsksFor words files boxes (program_refused fault place)
+HasCause words files boxes (text_refused name at) = AsksFor words files boxes (text_refused name at)
+HasCause words files boxes (stopped stop) = AsksFor words files boxes (stopped stop)

@@ -3,9 +3,10 @@ use Rattle.std.specs.Prelude.{◌≡◌, List}
 use Rattle.base_io.specs.Files.{Files}
 use Rattle.commands.specs.Words.{Text}
 use Rattle.commands.specs.Answers.{Answer}
+use Rattle.commands.specs.Running.{Box}
 use Rattle.commands.specs.Causes.{HasCause}
 use Rattle.commands.specs.Faults.{IsDecided}
 
--- words and files decide one answer at most
+-- words, files and boxes decide one answer at most
 abbrev pub DecideOne : Type 0
-DecideOne = (words : List Text) (files : Files) (a b : Answer) → IsDecided a → IsDecided b → HasCause words files a → HasCause words files b → a ≡ b
+DecideOne = (words : List Text) (files : Files) (boxes : List Box) (a b : Answer) → IsDecided a → IsDecided b → HasCause words files boxes a → HasCause words files boxes b → a ≡ b

@@ -10,7 +10,8 @@ use Rattle.emit_layout.specs.Straight.{straight_blocks}
 use Rattle.straight_programs.specs.declared.program.Statement.{Statement}
 use Rattle.commands.specs.Words.{Text, Build}
 use Rattle.commands.specs.Answers.{Answer, answer_of, done, read_fault, write_fault, no_memory, board_refused, too_large, not_built, line_of, built_line}
-use Rattle.commands.specs.Causes.{AreRead, IsFine, IsNoBoard, most_bytes}
+use Rattle.commands.specs.Running.{IsNoBoard}
+use Rattle.commands.specs.Causes.{AreRead, IsFine}
 use Rattle.commands.specs.Job.{IsFailedWrite, Seen, code_size}
 use Rattle.commands.specs.declared.status.Status.{Status}
 use Rattle.commands.specs.declared.status.Unbuilt.TheVariants.{Words, Program}
@@ -42,19 +43,19 @@ pub record IsReadyOf (wanted : Option ℕ) (program bytes : Text) (text line : T
 
 -- ---- One file
 
--- why a file isn't read, by what the store tells of it
-abbrev pub IsUnread : Files → Text → Answer → Type 0
-IsUnread files name (read_fault n) = n ≡ name
-IsUnread files name (too_large n seen) = (n ≡ name) × IsSomeAnd (files name) (λ text. most_bytes < length text) × (seen ≡ most_bytes + 1)
-IsUnread files name no_memory = ⊤
-IsUnread files name a = ⊥
+-- why a file of so many bytes at most isn't read, by what the store tells of it
+abbrev pub IsUnread : Files → ℕ → Text → Answer → Type 0
+IsUnread files most name (read_fault n) = n ≡ name
+IsUnread files most name (too_large n seen) = (n ≡ name) × IsSomeAnd (files name) (λ text. most < length text) × (seen ≡ most + 1)
+IsUnread files most name no_memory = ⊤
+IsUnread files most name a = ⊥
 
 -- and by its count
-abbrev pub CountsUnread : Text → ℕ → ℕ → Text → Answer → Type 0
-CountsUnread name before now bad (read_fault n) = (n ≡ name) × (bad ≡ name) × Rose before now
-CountsUnread name before now bad (too_large n seen) = (n ≡ name) × (seen ≡ most_bytes + 1) × (now ≡ before)
-CountsUnread name before now bad no_memory = ⊤
-CountsUnread name before now bad a = ⊥
+abbrev pub CountsUnread : ℕ → Text → ℕ → ℕ → Text → Answer → Type 0
+CountsUnread most name before now bad (read_fault n) = (n ≡ name) × (bad ≡ name) × Rose before now
+CountsUnread most name before now bad (too_large n seen) = (n ≡ name) × (seen ≡ most + 1) × (now ≡ before)
+CountsUnread most name before now bad no_memory = ⊤
+CountsUnread most name before now bad a = ⊥
 
 -- ---- Both files
 

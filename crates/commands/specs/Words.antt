@@ -1,6 +1,6 @@
--- What the words of the command line ask for: a build, or a job that isn't built yet.
+-- What the words of the command line ask for: a build, a run, a say, or a job that isn't built yet.
 use Rattle.std.specs.Prelude.{◌≡◌, ℕ, List, Option, Some, Bool, true, false}
-use Rattle.job_parts.specs.Asked.{Request, Task, asked, build}
+use Rattle.job_parts.specs.Asked.{Request, Task, asked, build, run, say}
 
 abbrev pub Text : Type 0
 Text = List ℕ
@@ -8,6 +8,8 @@ Text = List ℕ
 -- the jobs that are built
 abbrev pub is_built : Task → Bool
 is_built (build program board image certificate) = true
+is_built (run image board input supplies) = true
+is_built (say program input) = true
 is_built task = false
 
 -- the words ask for a job that isn't built
@@ -28,3 +30,27 @@ pub record Build : Type 0 where
 pub record AskBuild (words : List Text) (job : Build) : Type 0 where
   pub steps : ℕ
   pub asks : asked words ≡ Some (record { task = build job.program job.board job.image job.certificate; budget = job.budget; steps = steps })
+
+-- A run: its files, the budget that takes the place of the board's, if one is asked for, and the most instructions.
+pub record Run : Type 0 where
+  pub image : Text
+  pub board : Text
+  pub input : Text
+  pub supplies : List Text
+  pub budget : Option ℕ
+  pub steps : ℕ
+
+-- the words ask for this run
+pub record AskRun (words : List Text) (job : Run) : Type 0 where
+  pub asks : asked words ≡ Some (record { task = run job.image job.board job.input job.supplies; budget = job.budget; steps = job.steps })
+
+-- A say: its files, and the most steps.
+pub record Say : Type 0 where
+  pub program : Text
+  pub input : Text
+  pub steps : ℕ
+
+-- the words ask for this say, with any budget, which a say doesn't use
+pub record AskSay (words : List Text) (job : Say) : Type 0 where
+  pub budget : Option ℕ
+  pub asks : asked words ≡ Some (record { task = say job.program job.input; budget = budget; steps = job.steps })

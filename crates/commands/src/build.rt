@@ -1,19 +1,17 @@
-ghost use Rattle.std.specs.Prelude.{◌≡◌, ◌*◌, ◌≤◌, length, map, sum_by, unwrap_or, IfOk, IfSome, MatchResult, string_bytes};
-ghost use Rattle.board_table.specs.File.{IsBoardOf};
+ghost use Rattle.std.specs.Prelude.{◌≡◌, ◌*◌, ◌≤◌, map, sum_by, IfOk, IfSome, MatchResult, string_bytes};
 ghost use Rattle.emit_layout.specs.Operations.{objects_of};
 ghost use Rattle.emit_layout.specs.Straight.{straight_blocks};
 ghost use Rattle.straight_programs.specs.Text.{IsProgram, statement_operations};
 ghost use Rattle.ti_txt.specs.Image.{block_of};
 ghost use Rattle.ti_txt.specs.Spelling.{text_of};
 ghost use Rattle.commands.specs.Answers.{answer_of, built_line};
-ghost use Rattle.commands.specs.Budget.{IsBoardWith};
 ghost use Rattle.commands.specs.Causes.{IsRefused};
-ghost use Rattle.commands.specs.Parts.{IsBoardRefused, IsProgramRefused, IsReadyOf};
+ghost use Rattle.commands.specs.Parts.{IsProgramRefused, IsReadyOf};
 ghost use Rattle.commands.specs.Job.{code_size};
 
-use crate::{BoardRefusal, Status, Unbuilt};
+use crate::boards::board_with;
+use crate::{Status, Unbuilt};
 use base_io::Memory;
-use board_table::{Board, BoardFault, read_board};
 use emit_layout::{data_bytes, straight_image, straight_need};
 use std::alloc::Global;
 use straight_programs::{Statement, read_program};
@@ -37,58 +35,6 @@ fn statements_of(alloc: Global, text: &[u8]) -> Result<Vec<Statement>, Status>
         }),
         Err(_) => Err(Status::Memory),
     }
-}
-
-// The board of a file.
-fn board_of(alloc: Global, bytes: &[u8]) -> Result<Board, Status>
-    ensures { MatchResult result (λ b. IsBoardOf bytes.now b) (λ s. IsBoardRefused bytes.now (answer_of s)) }
-{
-    match read_board(alloc, bytes) {
-        Ok(board) => Ok(board),
-        Err(BoardFault::NotToml) => Err(Status::BoardRefused {
-            fault: BoardRefusal::NotToml,
-            key: String::new(alloc),
-        }),
-        Err(BoardFault::Missing { key }) => Err(Status::BoardRefused {
-            fault: BoardRefusal::Missing,
-            key,
-        }),
-        Err(BoardFault::OutOfRange { key }) => Err(Status::BoardRefused {
-            fault: BoardRefusal::OutOfRange,
-            key,
-        }),
-        Err(BoardFault::Extra { key }) => Err(Status::BoardRefused {
-            fault: BoardRefusal::Extra,
-            key,
-        }),
-        Err(BoardFault::Memory) => Err(Status::Memory),
-    }
-}
-
-// The board with this budget in place of its own, if one is given.
-fn with_budget(board: Board, budget: Option<u64>) -> Board
-    requires range { IfSome budget (λ n. (1 ≤ n) × (n ≤ 1000000000)) }
-    ensures budget { result.budget ≡ unwrap_or budget board.budget }
-    ensures core { result.core ≡ board.core }
-    ensures access { result.access ≡ board.access }
-{
-    match budget {
-        Some(budget) => Board {
-            budget,
-            core: board.core,
-            access: board.access,
-        },
-        None => board,
-    }
-}
-
-// The board of a file, with this budget in place of its own, if one is given.
-fn board_with(alloc: Global, bytes: &[u8], budget: Option<u64>) -> Result<Board, Status>
-    requires range { IfSome budget (λ n. (1 ≤ n) × (n ≤ 1000000000)) }
-    ensures { MatchResult result (IsBoardWith budget bytes.now) (λ s. IsBoardRefused bytes.now (answer_of s)) }
-{
-    let board = board_of(alloc, bytes)?;
-    Ok(with_budget(board, budget))
 }
 
 /// What a program and a board come to, with this budget in place of the board's, if one is given.

@@ -1,63 +1,20 @@
+//! The job `build`.
 ghost use Rattle.std.specs.Prelude.{◌≡◌, ◌≤◌, ℕ, [], IfOk, IfSome, MatchResult, string_bytes};
-ghost use Rattle.commands.specs.Answers.{answer_of, built_line, line_of, read_fault, too_large, write_fault};
-ghost use Rattle.commands.specs.Causes.{Causes, IsRead};
+ghost use Rattle.commands.specs.Answers.{answer_of, built_line, line_of, write_fault};
+ghost use Rattle.commands.specs.Causes.{Causes};
 ghost use Rattle.commands.specs.Job.{CountsReading, Ends, IsUnwritten};
-ghost use Rattle.commands.specs.Parts.{CountsUnread, IsOrNoMemory, IsReady, IsUnread, IsWritten};
+ghost use Rattle.commands.specs.Parts.{IsReady, IsWritten};
 ghost use Rattle.commands.specs.InCode.{named};
 
 use crate::Status;
 use crate::build::{Ready, ready_of};
 use crate::build_job::BuildJob;
-use crate::status::line_of;
-use base_io::{GetFault, Memory, Store};
+use crate::ending::{Ending, told};
+use crate::getting::read;
+use base_io::{Memory, Store};
 use std::alloc::Global;
 
 const MOST_BYTES: usize = 65_536;
-
-/// What a job came to, and the line that tells it.
-#[derive(Drop)]
-pub struct Ending {
-    pub status: Status,
-    pub line: String,
-}
-
-fn read_fault(alloc: Global, name: &str) -> Status
-    ensures { IsOrNoMemory result (read_fault name.now) }
-{
-    match String::from_str(alloc, name) {
-        Ok(name) => Status::ReadFault { name },
-        Err(_) => Status::Memory,
-    }
-}
-
-fn too_large(alloc: Global, name: &str, seen: usize) -> Status
-    ensures { IsOrNoMemory result (too_large name.now seen) }
-{
-    match String::from_str(alloc, name) {
-        Ok(name) => Status::TooLarge { name, seen },
-        Err(_) => Status::Memory,
-    }
-}
-
-// The bytes of a file, or why they can't be had.
-fn read<S: Store>(alloc: Global, name: &str, store: &mut S) -> Result<Vec<u8>, Status>
-    ensures files { S.files store.new ≡ S.files store.old }
-    ensures writes { S.write_faults store.new ≡ S.write_faults store.old }
-    ensures later { S.read_faults store.old ≤ S.read_faults store.new }
-    ensures told { IfSome (S.files store.old) (λ files. MatchResult result
-        (λ bytes. IsRead files name.now bytes.items)
-        (λ status. IsUnread files name.now (answer_of status))) }
-    ensures counts { MatchResult result
-        (λ bytes. S.read_faults store.new ≡ S.read_faults store.old)
-        (λ status. CountsUnread name.now (S.read_faults store.old) (S.read_faults store.new) (S.bad_name store.new) (answer_of status)) }
-{
-    match store.get(name, MOST_BYTES) {
-        Ok(bytes) => Ok(bytes),
-        Err(GetFault::Failed) => Err(read_fault(alloc, name)),
-        Err(GetFault::TooLong { seen }) => Err(too_large(alloc, name, seen)),
-        Err(GetFault::Memory) => Err(Status::Memory),
-    }
-}
 
 // Reads the files and builds the image's text.
 fn ready<S: Store>(alloc: Global, job: &BuildJob, store: &mut S) -> Result<Ready, Status>
@@ -72,17 +29,9 @@ fn ready<S: Store>(alloc: Global, job: &BuildJob, store: &mut S) -> Result<Ready
         (λ r. S.read_faults store.new ≡ S.read_faults store.old)
         (λ status. CountsReading (named job.now) (S.read_faults store.old) (S.read_faults store.new) (S.bad_name store.new) (answer_of status)) }
 {
-    let program = read(alloc, job.program, store)?;
-    let board = read(alloc, job.board, store)?;
+    let program = read(alloc, job.program, MOST_BYTES, store)?;
+    let board = read(alloc, job.board, MOST_BYTES, store)?;
     ready_of(alloc, &program, &board, job.budget)
-}
-
-/// How a job ends with this status, which is not that it was done.
-pub fn told(alloc: Global, status: Status) -> Result<Ending, Memory>
-    ensures { IfOk result (λ e. (e.status ≡ status) × (string_bytes e.line ≡ line_of [] (answer_of status))) }
-{
-    let line = line_of(alloc, &status, "")?;
-    Ok(Ending { status, line })
 }
 
 // How a build ends whose image can't be written.

@@ -1,41 +1,74 @@
-ghost use Rattle.std.specs.Prelude.{◌≡◌, ◌<◌, map, IfSome, MatchResult, string_bytes};
+//! The call, and the jobs that it knows.
+ghost use Rattle.std.specs.Prelude.{◌≡◌, ◌<◌, ◌≤◌, ◌^◌, length, map, IfSome, MatchResult, string_bytes};
 ghost use Rattle.base_io.specs.Counts.{Rose};
-ghost use Rattle.commands.specs.Answers.{answer_of, done, write_fault};
 ghost use Rattle.job_parts.specs.Asked.{IsInRange, asked, job_task, request};
-ghost use Rattle.commands.specs.Call.{ComesTo, Puts, Ran, TaskEnds};
+ghost use Rattle.supply_trace.specs.Boxes.{all_rows};
+ghost use Rattle.commands.specs.Answers.{answer_of, done, not_built, write_fault};
+ghost use Rattle.commands.specs.Begun.{FitBoxes, FitsBoxes, GivesUp, MatchBegun, MayRun, MaySay, Opens, Speaks, TaskRuns, TaskSays};
+ghost use Rattle.commands.specs.Call.{Called, ComesTo, Puts, TaskEnds};
 ghost use Rattle.commands.specs.Causes.{HasCause, output};
-ghost use Rattle.commands.specs.Faults.{IsComplete, IsReadFaultOrFree, IsWriteFault, ReadFaultIs, TooLargeIs, WordsAre, WriteFaultIs};
+ghost use Rattle.commands.specs.Faults.{IsComplete, IsReadFaultOrFree, IsWriteFault, NoBoxRose, ReadFaultIs, SupplyFaultIs, TooLargeIs, WordsAre, WriteFaultIs};
 ghost use Rattle.commands.specs.Headline.{IsKeptTold};
+ghost use Rattle.commands.specs.InCode.{named, run_named, say_named};
+ghost use Rattle.commands.specs.Job.{Ends, IsUnwritten};
 ghost use Rattle.commands.specs.Laws.{DecideOne};
-ghost use Rattle.commands.specs.Job.{IsUnwritten};
 ghost use Rattle.commands.specs.Left.{LeavesTold};
+ghost use Rattle.commands.specs.Refusing.{IsRefusal};
+ghost use Rattle.commands.specs.RunJob.{RunEnds};
+ghost use Rattle.commands.specs.SayJob.{SayEnds};
+ghost use Rattle.commands.specs.Running.{boxes_seen};
+ghost use Rattle.commands.specs.Words.{AskBuild, Build};
+ghost use Rattle.commands.specs.declared.status.Unbuilt.TheVariants.{Words};
 
 use crate::build_job::BuildJob;
-use crate::job::{Ending, build, told};
+use crate::ending::{Ending, told};
+use crate::job::build;
+use crate::run_job::RunJob;
+use crate::say_job::SayJob;
+use crate::saying::{Saying, holding, said};
+use crate::session::{Session, opened, session_ends};
 use crate::{Status, Unbuilt};
 use base_io::{Memory, Sink, Store};
 use emit_layout::straight_images_agree;
 use job_parts::{Asked, Job, read_words};
 use std::alloc::Global;
+use supply_trace::Supply;
+
+/// What a job comes to before anything is put: it ends and tells one line, or it is a run or a say that may begin.
+#[derive(Drop)]
+pub enum Begun {
+    Ends(Ending),
+    Runs(Session),
+    Says(Saying),
+}
 
 /// Does the job that the words after the program's name ask for, which are read as `job_parts::read_words` says:
 /// `build PROG BOARD IMAGE CERT` builds the image of a program for a board and writes it under IMAGE. Words without a reading, and
-/// those of a job that isn't built yet, touch no file. It puts one line that tells how the job ended.
+/// those of a job that isn't built yet, touch no file. `run IMAGE BOARD INPUT SUPPLY...` emulates an image: the file of
+/// each SUPPLY is loaded into the box of its place, behind the rows that the box holds, and further boxes are dropped. As the call
+/// ends, `supplies` holds the boxes that weren't dropped. `say PROG INPUT` runs the plain meaning of a C program. It puts one line
+/// that tells how the job ended, or the lines of a run or of a say.
 pub fn schematic<S: Store, K: Sink>(
     alloc: Global,
     words: &[&str],
     store: &mut S,
+    supplies: &mut Vec<Box<dyn Supply>>,
     sink: &mut K,
 ) -> Status
+    // There is a box for each word, and what they hold can be counted.
+    requires boxes { length words.now ≤ length supplies.old.items }
+    requires rows { length (all_rows (λ b. (⟦<dyn Supply as Supply>⟧ b.vtable).rows_left b.value) supplies.old.items) < 2 ^ 32 }
     // A build that was done: the image under IMAGE agrees with the program that was read, on the board that was read.
-    ensures headline { answer_of result ≡ done → IsKeptTold (map (λ word. word.now) words.now) (S.files store.old) (S.files store.new) }
+    ensures headline { (job : Build) → AskBuild (map (λ word. word.now) words.now) job → answer_of result ≡ done → IsKeptTold (map (λ word. word.now) words.now) (S.files store.old) (S.files store.new) }
     // Why each status comes, and that no other comes where no fault is counted.
-    ensures cause { IfSome (S.files store.old) (λ files. HasCause (map (λ word. word.now) words.now) files (answer_of result)) }
+    ensures cause { IfSome (S.files store.old) (λ files. HasCause (map (λ word. word.now) words.now) files (boxes_seen (λ b. (⟦<dyn Supply as Supply>⟧ b.vtable).rows_left b.value) (λ b. (⟦<dyn Supply as Supply>⟧ b.vtable).supply_faults b.value) supplies.old.items) (answer_of result)) }
     ensures complete { IfSome (S.files store.old) (λ files.
         ¬ Rose (S.read_faults store.old) (S.read_faults store.new) → ¬ Rose (S.write_faults store.old) (S.write_faults store.new)
-        → ¬ Rose (K.faults sink.old) (K.faults sink.new) → IsComplete (map (λ word. word.now) words.now) files (answer_of result)) }
+        → ¬ Rose (K.faults sink.old) (K.faults sink.new)
+        → NoBoxRose (map (λ word. word.now) words.now) (boxes_seen (λ b. (⟦<dyn Supply as Supply>⟧ b.vtable).rows_left b.value) (λ b. (⟦<dyn Supply as Supply>⟧ b.vtable).supply_faults b.value) supplies.old.items) (boxes_seen (λ b. (⟦<dyn Supply as Supply>⟧ b.vtable).rows_left b.value) (λ b. (⟦<dyn Supply as Supply>⟧ b.vtable).supply_faults b.value) supplies.new.items)
+        → IsComplete (map (λ word. word.now) words.now) files (boxes_seen (λ b. (⟦<dyn Supply as Supply>⟧ b.vtable).rows_left b.value) (λ b. (⟦<dyn Supply as Supply>⟧ b.vtable).supply_faults b.value) supplies.old.items) (answer_of result)) }
     ensures words { WordsAre (map (λ word. word.now) words.now) (answer_of result) }
-    // Faults, by the counts of the store and of the output.
+    // Faults, by the counts of the store, of the boxes and of the output.
     ensures read_fault { ReadFaultIs (map (λ word. word.now) words.now) (S.read_faults store.old) (S.read_faults store.new)
         (S.bad_name store.new) (answer_of result) }
     ensures read_rose { S.read_faults store.old < S.read_faults store.new → IsReadFaultOrFree (answer_of result) }
@@ -43,19 +76,22 @@ pub fn schematic<S: Store, K: Sink>(
     ensures write_fault { WriteFaultIs (map (λ word. word.now) words.now) (S.write_faults store.old) (S.write_faults store.new)
         (K.faults sink.old) (K.faults sink.new) (answer_of result) }
     ensures write_rose { S.write_faults store.old < S.write_faults store.new → IsWriteFault (answer_of result) }
+    ensures supply_fault { SupplyFaultIs (map (λ word. word.now) words.now) (boxes_seen (λ b. (⟦<dyn Supply as Supply>⟧ b.vtable).rows_left b.value) (λ b. (⟦<dyn Supply as Supply>⟧ b.vtable).supply_faults b.value) supplies.old.items) (boxes_seen (λ b. (⟦<dyn Supply as Supply>⟧ b.vtable).rows_left b.value) (λ b. (⟦<dyn Supply as Supply>⟧ b.vtable).supply_faults b.value) supplies.new.items) (answer_of result) }
     ensures output_rose { K.faults sink.old < K.faults sink.new → answer_of result ≡ write_fault output }
-    // What is left in the files; and the whole: how the job ended, and what was put of it.
+    // What is left in the files; and the whole: how the job ended, what was put of it, and what is left of the boxes.
     ensures leaves { LeavesTold (map (λ word. word.now) words.now) (answer_of result) (S.files store.old) (S.files store.new) }
     ensures failed_write { S.write_faults store.old < S.write_faults store.new → S.files store.new ≡ S.files store.old }
-    ensures call { Ran (map (λ word. word.now) words.now)
+    ensures call { Called (map (λ word. word.now) words.now)
         (record { files = S.files store.old; reads = S.read_faults store.old; writes = S.write_faults store.old; bad = S.bad_name store.old })
         (record { files = S.files store.new; reads = S.read_faults store.new; writes = S.write_faults store.new; bad = S.bad_name store.new })
+        (boxes_seen (λ b. (⟦<dyn Supply as Supply>⟧ b.vtable).rows_left b.value) (λ b. (⟦<dyn Supply as Supply>⟧ b.vtable).supply_faults b.value) supplies.old.items)
+        (boxes_seen (λ b. (⟦<dyn Supply as Supply>⟧ b.vtable).rows_left b.value) (λ b. (⟦<dyn Supply as Supply>⟧ b.vtable).supply_faults b.value) supplies.new.items)
         (record { told = K.taken sink.old; faults = K.faults sink.old })
         (record { told = K.taken sink.new; faults = K.faults sink.new })
         (answer_of result) }
 {
     straight_images_agree();
-    run(alloc, words, store, sink)
+    run(alloc, words, store, supplies, sink)
 }
 
 /// Words and files decide one answer at most, so that each cause is that of its own status alone.
@@ -63,17 +99,34 @@ pub fn words_and_files_decide_one()
     ensures { DecideOne }
 {}
 
-// How a job ends.
-fn job_ended<S: Store>(alloc: Global, asked: &Asked<'_>, store: &mut S) -> Result<Ending, Memory>
+// What a job comes to.
+fn job_begun<S: Store>(
+    alloc: Global,
+    asked: &Asked<'_>,
+    store: &mut S,
+    supplies: &mut Vec<Box<dyn Supply>>,
+) -> Result<Begun, Memory>
     requires range { IsInRange (request asked.now) }
+    requires boxes { FitsBoxes (job_task asked.now.job) (length supplies.old.items) }
     ensures { MatchResult result
-        (λ e. TaskEnds (job_task asked.now.job) asked.now.budget
+        (λ e. MatchBegun e
+        (λ ending. TaskEnds (job_task asked.now.job) asked.now.budget asked.now.steps
         (record { files = S.files store.old; reads = S.read_faults store.old; writes = S.write_faults store.old; bad = S.bad_name store.old })
         (record { files = S.files store.new; reads = S.read_faults store.new; writes = S.write_faults store.new; bad = S.bad_name store.new })
-        (answer_of e.status) (string_bytes e.line))
-        (λ _. IsUnwritten
+        (boxes_seen (λ b. (⟦<dyn Supply as Supply>⟧ b.vtable).rows_left b.value) (λ b. (⟦<dyn Supply as Supply>⟧ b.vtable).supply_faults b.value) supplies.old.items) (boxes_seen (λ b. (⟦<dyn Supply as Supply>⟧ b.vtable).rows_left b.value) (λ b. (⟦<dyn Supply as Supply>⟧ b.vtable).supply_faults b.value) supplies.new.items)
+        (answer_of ending.status) (string_bytes ending.line))
+        (λ session. TaskRuns (job_task asked.now.job) asked.now.budget asked.now.steps
         (record { files = S.files store.old; reads = S.read_faults store.old; writes = S.write_faults store.old; bad = S.bad_name store.old })
-        (record { files = S.files store.new; reads = S.read_faults store.new; writes = S.write_faults store.new; bad = S.bad_name store.new })) }
+        (record { files = S.files store.new; reads = S.read_faults store.new; writes = S.write_faults store.new; bad = S.bad_name store.new })
+        (boxes_seen (λ b. (⟦<dyn Supply as Supply>⟧ b.vtable).rows_left b.value) (λ b. (⟦<dyn Supply as Supply>⟧ b.vtable).supply_faults b.value) supplies.old.items) (boxes_seen (λ b. (⟦<dyn Supply as Supply>⟧ b.vtable).rows_left b.value) (λ b. (⟦<dyn Supply as Supply>⟧ b.vtable).supply_faults b.value) supplies.new.items) session)
+        (λ saying. TaskSays (job_task asked.now.job) asked.now.steps
+        (record { files = S.files store.old; reads = S.read_faults store.old; writes = S.write_faults store.old; bad = S.bad_name store.old })
+        (record { files = S.files store.new; reads = S.read_faults store.new; writes = S.write_faults store.new; bad = S.bad_name store.new })
+        (boxes_seen (λ b. (⟦<dyn Supply as Supply>⟧ b.vtable).rows_left b.value) (λ b. (⟦<dyn Supply as Supply>⟧ b.vtable).supply_faults b.value) supplies.old.items) (boxes_seen (λ b. (⟦<dyn Supply as Supply>⟧ b.vtable).rows_left b.value) (λ b. (⟦<dyn Supply as Supply>⟧ b.vtable).supply_faults b.value) supplies.new.items) saying))
+        (λ _. GivesUp
+        (record { files = S.files store.old; reads = S.read_faults store.old; writes = S.write_faults store.old; bad = S.bad_name store.old })
+        (record { files = S.files store.new; reads = S.read_faults store.new; writes = S.write_faults store.new; bad = S.bad_name store.new })
+        (boxes_seen (λ b. (⟦<dyn Supply as Supply>⟧ b.vtable).rows_left b.value) (λ b. (⟦<dyn Supply as Supply>⟧ b.vtable).supply_faults b.value) supplies.old.items) (boxes_seen (λ b. (⟦<dyn Supply as Supply>⟧ b.vtable).rows_left b.value) (λ b. (⟦<dyn Supply as Supply>⟧ b.vtable).supply_faults b.value) supplies.new.items)) }
 {
     match &asked.job {
         Job::Build {
@@ -89,31 +142,163 @@ fn job_ended<S: Store>(alloc: Global, asked: &Asked<'_>, store: &mut S) -> Resul
                 certificate,
                 budget: asked.budget,
             };
-            build(alloc, &job, store)
+            build_begun(alloc, &job, store)
         }
-        _ => told(
-            alloc,
-            Status::NotBuilt {
-                what: Unbuilt::Words,
-            },
-        ),
+        Job::Run {
+            image,
+            board,
+            input,
+            supplies: names,
+        } => {
+            let budget = asked.budget;
+            let job = RunJob {
+                image,
+                board,
+                input,
+                supplies: names.as_slice(),
+                budget,
+                steps: asked.steps,
+            };
+            run_begun(alloc, &job, store, supplies)
+        }
+        Job::Say { program, input } => {
+            let job = SayJob {
+                program,
+                input,
+                steps: asked.steps,
+            };
+            say_begun(alloc, &job, store)
+        }
+        Job::Check { .. } => unbuilt(alloc),
+        Job::Plan { .. } => unbuilt(alloc),
+        Job::Gen { .. } => unbuilt(alloc),
     }
 }
 
-// How the job of the words ends.
-fn ended<S: Store>(alloc: Global, words: &[&str], store: &mut S) -> Result<Ending, Memory>
+// A job that is refused with this status.
+fn refused(alloc: Global, status: Status) -> Result<Begun, Memory>
+    ensures { IsRefusal (answer_of status) result }
+{
+    let ending = told(alloc, status)?;
+    Ok(Begun::Ends(ending))
+}
+
+// A job that isn't built yet.
+fn unbuilt(alloc: Global) -> Result<Begun, Memory>
+    ensures { IsRefusal (not_built Words) result }
+{
+    refused(
+        alloc,
+        Status::NotBuilt {
+            what: Unbuilt::Words,
+        },
+    )
+}
+
+// What a build comes to: it always ends.
+fn build_begun<S: Store>(alloc: Global, job: &BuildJob, store: &mut S) -> Result<Begun, Memory>
     ensures { MatchResult result
-        (λ e. ComesTo (asked (map (λ word. word.now) words.now))
+        (λ e. MatchBegun e
+        (λ ending. Ends (named job.now)
         (record { files = S.files store.old; reads = S.read_faults store.old; writes = S.write_faults store.old; bad = S.bad_name store.old })
         (record { files = S.files store.new; reads = S.read_faults store.new; writes = S.write_faults store.new; bad = S.bad_name store.new })
-        (answer_of e.status) (string_bytes e.line))
+        (answer_of ending.status) (string_bytes ending.line))
+        (λ session. ⊥)
+        (λ saying. ⊥))
         (λ _. IsUnwritten
         (record { files = S.files store.old; reads = S.read_faults store.old; writes = S.write_faults store.old; bad = S.bad_name store.old })
         (record { files = S.files store.new; reads = S.read_faults store.new; writes = S.write_faults store.new; bad = S.bad_name store.new })) }
 {
+    match build(alloc, job, store) {
+        Ok(ending) => Ok(Begun::Ends(ending)),
+        Err(e) => Err(e),
+    }
+}
+
+// What a run comes to: it may begin, or it is refused.
+fn run_begun<S: Store>(
+    alloc: Global,
+    job: &RunJob,
+    store: &mut S,
+    supplies: &mut Vec<Box<dyn Supply>>,
+) -> Result<Begun, Memory>
+    requires boxes { FitBoxes (run_named job.now).supplies (length supplies.old.items) }
+    ensures { MatchResult result
+        (λ e. MatchBegun e
+        (λ ending. RunEnds (run_named job.now)
+        (record { files = S.files store.old; reads = S.read_faults store.old; writes = S.write_faults store.old; bad = S.bad_name store.old })
+        (record { files = S.files store.new; reads = S.read_faults store.new; writes = S.write_faults store.new; bad = S.bad_name store.new })
+        (boxes_seen (λ b. (⟦<dyn Supply as Supply>⟧ b.vtable).rows_left b.value) (λ b. (⟦<dyn Supply as Supply>⟧ b.vtable).supply_faults b.value) supplies.old.items) (boxes_seen (λ b. (⟦<dyn Supply as Supply>⟧ b.vtable).rows_left b.value) (λ b. (⟦<dyn Supply as Supply>⟧ b.vtable).supply_faults b.value) supplies.new.items)
+        (answer_of ending.status) (string_bytes ending.line))
+        (λ session. MayRun (run_named job.now)
+        (record { files = S.files store.old; reads = S.read_faults store.old; writes = S.write_faults store.old; bad = S.bad_name store.old })
+        (record { files = S.files store.new; reads = S.read_faults store.new; writes = S.write_faults store.new; bad = S.bad_name store.new })
+        (boxes_seen (λ b. (⟦<dyn Supply as Supply>⟧ b.vtable).rows_left b.value) (λ b. (⟦<dyn Supply as Supply>⟧ b.vtable).supply_faults b.value) supplies.old.items) (boxes_seen (λ b. (⟦<dyn Supply as Supply>⟧ b.vtable).rows_left b.value) (λ b. (⟦<dyn Supply as Supply>⟧ b.vtable).supply_faults b.value) supplies.new.items) session)
+        (λ saying. ⊥))
+        (λ _. GivesUp
+        (record { files = S.files store.old; reads = S.read_faults store.old; writes = S.write_faults store.old; bad = S.bad_name store.old })
+        (record { files = S.files store.new; reads = S.read_faults store.new; writes = S.write_faults store.new; bad = S.bad_name store.new })
+        (boxes_seen (λ b. (⟦<dyn Supply as Supply>⟧ b.vtable).rows_left b.value) (λ b. (⟦<dyn Supply as Supply>⟧ b.vtable).supply_faults b.value) supplies.old.items) (boxes_seen (λ b. (⟦<dyn Supply as Supply>⟧ b.vtable).rows_left b.value) (λ b. (⟦<dyn Supply as Supply>⟧ b.vtable).supply_faults b.value) supplies.new.items)) }
+{
+    match opened(alloc, job, store, supplies) {
+        Ok(session) => Ok(Begun::Runs(session)),
+        Err(status) => refused(alloc, status),
+    }
+}
+
+// What a say comes to: it may begin, or it is refused.
+fn say_begun<S: Store>(alloc: Global, job: &SayJob, store: &mut S) -> Result<Begun, Memory>
+    ensures { MatchResult result
+        (λ e. MatchBegun e
+        (λ ending. SayEnds (say_named job.now)
+        (record { files = S.files store.old; reads = S.read_faults store.old; writes = S.write_faults store.old; bad = S.bad_name store.old })
+        (record { files = S.files store.new; reads = S.read_faults store.new; writes = S.write_faults store.new; bad = S.bad_name store.new })
+        (answer_of ending.status) (string_bytes ending.line))
+        (λ session. ⊥)
+        (λ saying. MaySay (say_named job.now)
+        (record { files = S.files store.old; reads = S.read_faults store.old; writes = S.write_faults store.old; bad = S.bad_name store.old })
+        (record { files = S.files store.new; reads = S.read_faults store.new; writes = S.write_faults store.new; bad = S.bad_name store.new }) saying))
+        (λ _. IsUnwritten
+        (record { files = S.files store.old; reads = S.read_faults store.old; writes = S.write_faults store.old; bad = S.bad_name store.old })
+        (record { files = S.files store.new; reads = S.read_faults store.new; writes = S.write_faults store.new; bad = S.bad_name store.new })) }
+{
+    match holding(alloc, job, store) {
+        Ok(saying) => Ok(Begun::Says(saying)),
+        Err(status) => Ok(Begun::Ends(told(alloc, status)?)),
+    }
+}
+
+// What the job of the words comes to.
+fn words_begun<S: Store>(
+    alloc: Global,
+    words: &[&str],
+    store: &mut S,
+    supplies: &mut Vec<Box<dyn Supply>>,
+) -> Result<Begun, Memory>
+    requires boxes { length words.now ≤ length supplies.old.items }
+    ensures { MatchResult result
+        (λ e. MatchBegun e
+        (λ ending. ComesTo (asked (map (λ word. word.now) words.now))
+        (record { files = S.files store.old; reads = S.read_faults store.old; writes = S.write_faults store.old; bad = S.bad_name store.old })
+        (record { files = S.files store.new; reads = S.read_faults store.new; writes = S.write_faults store.new; bad = S.bad_name store.new })
+        (boxes_seen (λ b. (⟦<dyn Supply as Supply>⟧ b.vtable).rows_left b.value) (λ b. (⟦<dyn Supply as Supply>⟧ b.vtable).supply_faults b.value) supplies.old.items) (boxes_seen (λ b. (⟦<dyn Supply as Supply>⟧ b.vtable).rows_left b.value) (λ b. (⟦<dyn Supply as Supply>⟧ b.vtable).supply_faults b.value) supplies.new.items)
+        (answer_of ending.status) (string_bytes ending.line))
+        (λ session. Opens (map (λ word. word.now) words.now)
+        (record { files = S.files store.old; reads = S.read_faults store.old; writes = S.write_faults store.old; bad = S.bad_name store.old })
+        (record { files = S.files store.new; reads = S.read_faults store.new; writes = S.write_faults store.new; bad = S.bad_name store.new })
+        (boxes_seen (λ b. (⟦<dyn Supply as Supply>⟧ b.vtable).rows_left b.value) (λ b. (⟦<dyn Supply as Supply>⟧ b.vtable).supply_faults b.value) supplies.old.items) (boxes_seen (λ b. (⟦<dyn Supply as Supply>⟧ b.vtable).rows_left b.value) (λ b. (⟦<dyn Supply as Supply>⟧ b.vtable).supply_faults b.value) supplies.new.items) session)
+        (λ saying. Speaks (map (λ word. word.now) words.now)
+        (record { files = S.files store.old; reads = S.read_faults store.old; writes = S.write_faults store.old; bad = S.bad_name store.old })
+        (record { files = S.files store.new; reads = S.read_faults store.new; writes = S.write_faults store.new; bad = S.bad_name store.new })
+        (boxes_seen (λ b. (⟦<dyn Supply as Supply>⟧ b.vtable).rows_left b.value) (λ b. (⟦<dyn Supply as Supply>⟧ b.vtable).supply_faults b.value) supplies.old.items) (boxes_seen (λ b. (⟦<dyn Supply as Supply>⟧ b.vtable).rows_left b.value) (λ b. (⟦<dyn Supply as Supply>⟧ b.vtable).supply_faults b.value) supplies.new.items) saying))
+        (λ _. GivesUp
+        (record { files = S.files store.old; reads = S.read_faults store.old; writes = S.write_faults store.old; bad = S.bad_name store.old })
+        (record { files = S.files store.new; reads = S.read_faults store.new; writes = S.write_faults store.new; bad = S.bad_name store.new })
+        (boxes_seen (λ b. (⟦<dyn Supply as Supply>⟧ b.vtable).rows_left b.value) (λ b. (⟦<dyn Supply as Supply>⟧ b.vtable).supply_faults b.value) supplies.old.items) (boxes_seen (λ b. (⟦<dyn Supply as Supply>⟧ b.vtable).rows_left b.value) (λ b. (⟦<dyn Supply as Supply>⟧ b.vtable).supply_faults b.value) supplies.new.items)) }
+{
     match read_words(alloc, words)? {
-        Some(asked) => job_ended(alloc, &asked, store),
-        None => told(alloc, Status::Usage),
+        Some(asked) => job_begun(alloc, &asked, store, supplies),
+        None => refused(alloc, Status::Usage),
     }
 }
 
@@ -131,11 +316,32 @@ fn put_line<K: Sink>(name: String, status: Status, line: &str, sink: &mut K) -> 
     }
 }
 
+// Puts the line of an ending.
+fn put_ending<K: Sink>(ending: Ending, name: String, sink: &mut K) -> Status
+    requires output { string_bytes name ≡ output }
+    ensures { Puts (answer_of ending.status) (string_bytes ending.line)
+        (record { told = K.taken sink.old; faults = K.faults sink.old })
+        (record { told = K.taken sink.new; faults = K.faults sink.new })
+        (answer_of result) }
+{
+    put_line(name, ending.status, ending.line.as_str(), sink)
+}
+
 // The whole call.
-fn run<S: Store, K: Sink>(alloc: Global, words: &[&str], store: &mut S, sink: &mut K) -> Status
-    ensures { Ran (map (λ word. word.now) words.now)
+fn run<S: Store, K: Sink>(
+    alloc: Global,
+    words: &[&str],
+    store: &mut S,
+    supplies: &mut Vec<Box<dyn Supply>>,
+    sink: &mut K,
+) -> Status
+    requires boxes { length words.now ≤ length supplies.old.items }
+    requires rows { length (all_rows (λ b. (⟦<dyn Supply as Supply>⟧ b.vtable).rows_left b.value) supplies.old.items) < 2 ^ 32 }
+    ensures { Called (map (λ word. word.now) words.now)
         (record { files = S.files store.old; reads = S.read_faults store.old; writes = S.write_faults store.old; bad = S.bad_name store.old })
         (record { files = S.files store.new; reads = S.read_faults store.new; writes = S.write_faults store.new; bad = S.bad_name store.new })
+        (boxes_seen (λ b. (⟦<dyn Supply as Supply>⟧ b.vtable).rows_left b.value) (λ b. (⟦<dyn Supply as Supply>⟧ b.vtable).supply_faults b.value) supplies.old.items)
+        (boxes_seen (λ b. (⟦<dyn Supply as Supply>⟧ b.vtable).rows_left b.value) (λ b. (⟦<dyn Supply as Supply>⟧ b.vtable).supply_faults b.value) supplies.new.items)
         (record { told = K.taken sink.old; faults = K.faults sink.old })
         (record { told = K.taken sink.new; faults = K.faults sink.new })
         (answer_of result) }
@@ -143,8 +349,10 @@ fn run<S: Store, K: Sink>(alloc: Global, words: &[&str], store: &mut S, sink: &m
     let Ok(output) = String::from_str(alloc, "-") else {
         return Status::Memory;
     };
-    match ended(alloc, words, store) {
-        Ok(ending) => put_line(output, ending.status, ending.line.as_str(), sink),
+    match words_begun(alloc, words, store, supplies) {
+        Ok(Begun::Ends(ending)) => put_ending(ending, output, sink),
+        Ok(Begun::Runs(session)) => session_ends(alloc, session, output, supplies, sink),
+        Ok(Begun::Says(saying)) => said(alloc, saying, output, sink),
         Err(_) => put_line(output, Status::Memory, "out of memory\n", sink),
     }
 }

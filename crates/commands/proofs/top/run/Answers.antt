@@ -1,19 +1,37 @@
-use Rattle.std.proofs.Common.{refl, inl, inr, [], arith}
+use Rattle.std.proofs.Common.{◌≡◌, ◌≤◌, ℕ, refl, sym, subst, inl, inr, [], arith}
 use Rattle.commands.specs.Answers.{no_memory, line_of}
+use Rattle.commands.proofs.Begins.{line_call, memory_call, run_call}
+use Rattle.commands.proofs.Opening.{rows_fit}
+use Rattle.commands.proofs.SaidCalls.{said_call}
 use Rattle.commands.proofs.top.run.Goals as goal
 
 pub returns-in_default : goal.returns-in_default
-returns-in_default g c = record {
+returns-in_default g c = inl (record {
   came = no_memory;
   line = line_of [] no_memory;
-  comes = inr (record { answer = refl; kept = record { files = refl; writes = refl; reads = omega arith }; tells = refl });
+  comes = inr (record { answer = refl; kept = record { files = refl; writes = refl; reads = omega arith }; boxes = record { rows = []; are = refl }; tells = refl });
   puts = inr (record { answer = refl; told = refl; faults = refl }, refl);
-}
+})
 
 pub returns-in-Err : goal.returns-in-Err
-returns-in-Err g c = record {
-  came = no_memory;
-  line = line_of [] no_memory;
-  comes = inr (record { answer = refl; kept = c.in-Err.ensures; tells = refl });
-  puts = inl c.put_line-in-Err.ensures;
-}
+returns-in-Err g c = memory_call _ _ _ _ _ _ _ _ c.in-Err.ensures c.put_line.ensures
+
+pub returns-in-Ok-Ends : goal.returns-in-Ok-Ends
+returns-in-Ok-Ends g c = line_call _ _ _ _ _ _ _ _ _ _ (rw c.in-Ok-Ends.field-0-is at c.in-Ok-Ends.ensures) c.put_ending.ensures
+
+pub returns-in-Ok-Runs : goal.returns-in-Ok-Runs
+returns-in-Ok-Runs g c = run_call _ _ _ _ _ _ _ _ _ _ (rw c.in-Ok-Runs.field-0-is at c.in-Ok-Runs.ensures) c.session_ends.ensures
+
+pub returns-in-Ok-Says : goal.returns-in-Ok-Says
+returns-in-Ok-Says g c = said_call _ _ _ _ _ _ _ _ _ (rw c.in-Ok-Says.field-0-is at c.in-Ok-Says.ensures) c.said.ensures
+
+pub session_ends-requires : goal.session_ends-requires
+session_ends-requires g c =
+    let may = (rw c.in-Ok-Runs.field-0-is at c.in-Ok-Runs.ensures).2 in
+    record {
+      fresh = may.is_session.fresh;
+      off = may.is_session.is_first.off;
+      few_steps = subst (λ (n : ℕ). n ≤ 1000000000) (sym may.is_session.steps_are) may.few_steps;
+      few_rows = rows_fit _ _ _ _ may.said.rows may.is_session.boxes may.few_rows c.requires.rows;
+      output = c.in-Ok.ensures.ok;
+    }

@@ -1,4 +1,4 @@
-use Rattle.commands.proofs.build.board_with.Goals as goal
+use Rattle.commands.proofs.boards.board_with.Goals as goal
 
 pub returns : goal.returns
 returns c = record {

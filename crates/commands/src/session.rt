@@ -1,0 +1,164 @@
+//! A run of an image, from its files to its end.
+ghost use Rattle.std.specs.Prelude.{◌≡◌, ◌++◌, ◌<◌, ◌≤◌, ◌^◌, MatchResult, drop, length, map, string_bytes};
+ghost use Rattle.msp430_machine.specs.State.{Off};
+ghost use Rattle.msp430_machine.specs.Views.{state_of};
+ghost use Rattle.power_core.specs.Cores.{no_counts};
+ghost use Rattle.supply_trace.specs.Boxes.{all_rows};
+ghost use Rattle.commands.specs.Answers.{answer_of, came_of};
+ghost use Rattle.commands.specs.Begun.{FitBoxes, IsSession, MayRun};
+ghost use Rattle.commands.specs.Causes.{output};
+ghost use Rattle.commands.specs.InCode.{run_named};
+ghost use Rattle.commands.specs.Opening.{said_in};
+ghost use Rattle.commands.specs.RunJob.{IsPartlyLoaded, IsShown, RunRefuses};
+ghost use Rattle.commands.specs.Running.{boxes_seen, loaded};
+
+use crate::Status;
+use crate::holdings::{Holdings, holdings_of};
+use crate::run_job::RunJob;
+use crate::texts::texts_of;
+use base_io::{Memory, Sink, Store};
+use board_table::Board;
+use msp430_machine::{Machine, Refill};
+use power_core::Core;
+use std::alloc::Global;
+use std::mem;
+use supplied_run::{End, run};
+use supply_trace::{Bench, Supply};
+
+/// A run that may begin: its files are read and its supplies are loaded. From here on it takes no memory.
+#[derive(Drop)]
+pub struct Session {
+    pub core: Core,
+    pub board: Board,
+    pub input: Vec<u16>,
+    /// The most instructions.
+    pub steps: u64,
+}
+
+fn load_box(b: &mut Box<dyn Supply>, rows: Vec<Refill>) -> Result<(), Memory>
+    ensures rows { MatchResult result
+        (λ _. (⟦<dyn Supply as Supply>⟧ b.new.vtable).rows_left b.new.value ≡ (⟦<dyn Supply as Supply>⟧ b.old.vtable).rows_left b.old.value ++ rows.items)
+        (λ _. (⟦<dyn Supply as Supply>⟧ b.new.vtable).rows_left b.new.value ≡ (⟦<dyn Supply as Supply>⟧ b.old.vtable).rows_left b.old.value) }
+    ensures faults { (⟦<dyn Supply as Supply>⟧ b.new.vtable).supply_faults b.new.value ≡ (⟦<dyn Supply as Supply>⟧ b.old.vtable).supply_faults b.old.value }
+{
+    match b.load(rows) {
+        Ok(()) => Ok(()),
+        Err(_) => Err(Memory),
+    }
+}
+
+// Loads the rows of each file into the box of its place.
+fn load_each(rows: Vec<Vec<Refill>>, supplies: &mut Vec<Box<dyn Supply>>) -> Result<(), Memory>
+    requires { length rows.items ≤ length supplies.old.items }
+    ensures { MatchResult result
+        (λ _. (boxes_seen (λ b. (⟦<dyn Supply as Supply>⟧ b.vtable).rows_left b.value) (λ b. (⟦<dyn Supply as Supply>⟧ b.vtable).supply_faults b.value) supplies.new.items) ≡ loaded (boxes_seen (λ b. (⟦<dyn Supply as Supply>⟧ b.vtable).rows_left b.value) (λ b. (⟦<dyn Supply as Supply>⟧ b.vtable).supply_faults b.value) supplies.old.items) (map (λ v. v.items) rows.items) ++ drop (length rows.items) (boxes_seen (λ b. (⟦<dyn Supply as Supply>⟧ b.vtable).rows_left b.value) (λ b. (⟦<dyn Supply as Supply>⟧ b.vtable).supply_faults b.value) supplies.old.items))
+        (λ _. IsPartlyLoaded (boxes_seen (λ b. (⟦<dyn Supply as Supply>⟧ b.vtable).rows_left b.value) (λ b. (⟦<dyn Supply as Supply>⟧ b.vtable).supply_faults b.value) supplies.old.items) (boxes_seen (λ b. (⟦<dyn Supply as Supply>⟧ b.vtable).rows_left b.value) (λ b. (⟦<dyn Supply as Supply>⟧ b.vtable).supply_faults b.value) supplies.new.items)) }
+{
+    let mut i = 0;
+    for more in rows {
+        if load_box(&mut supplies[i], more).is_err() {
+            return Err(Memory);
+        }
+        i += 1;
+    }
+    Ok(())
+}
+
+// Loads the device and the supplies, and drops the boxes behind those unasked.
+fn loaded(
+    alloc: Global,
+    steps: u64,
+    holdings: Holdings,
+    supplies: &mut Vec<Box<dyn Supply>>,
+) -> Result<Session, Memory>
+    requires { length holdings.rows.items ≤ length supplies.old.items }
+    ensures { MatchResult result
+        (λ session. IsSession steps (said_in holdings) (boxes_seen (λ b. (⟦<dyn Supply as Supply>⟧ b.vtable).rows_left b.value) (λ b. (⟦<dyn Supply as Supply>⟧ b.vtable).supply_faults b.value) supplies.old.items) (boxes_seen (λ b. (⟦<dyn Supply as Supply>⟧ b.vtable).rows_left b.value) (λ b. (⟦<dyn Supply as Supply>⟧ b.vtable).supply_faults b.value) supplies.new.items) session)
+        (λ _. IsPartlyLoaded (boxes_seen (λ b. (⟦<dyn Supply as Supply>⟧ b.vtable).rows_left b.value) (λ b. (⟦<dyn Supply as Supply>⟧ b.vtable).supply_faults b.value) supplies.old.items) (boxes_seen (λ b. (⟦<dyn Supply as Supply>⟧ b.vtable).rows_left b.value) (λ b. (⟦<dyn Supply as Supply>⟧ b.vtable).supply_faults b.value) supplies.new.items)) }
+{
+    let machine = Machine::load(alloc, &holdings.image)?;
+    let count = holdings.rows.len();
+    load_each(holdings.rows, supplies)?;
+    supplies.truncate(count);
+    Ok(Session {
+        core: Core::new(machine),
+        board: holdings.board,
+        input: holdings.input,
+        steps,
+    })
+}
+
+/// Reads the files of a run, and loads the device and the supplies.
+pub fn opened<S: Store>(
+    alloc: Global,
+    job: &RunJob,
+    store: &mut S,
+    supplies: &mut Vec<Box<dyn Supply>>,
+) -> Result<Session, Status>
+    requires boxes { FitBoxes (run_named job.now).supplies (length supplies.old.items) }
+    ensures { MatchResult result
+        (λ session. MayRun (run_named job.now)
+        (record { files = S.files store.old; reads = S.read_faults store.old; writes = S.write_faults store.old; bad = S.bad_name store.old })
+        (record { files = S.files store.new; reads = S.read_faults store.new; writes = S.write_faults store.new; bad = S.bad_name store.new })
+        (boxes_seen (λ b. (⟦<dyn Supply as Supply>⟧ b.vtable).rows_left b.value) (λ b. (⟦<dyn Supply as Supply>⟧ b.vtable).supply_faults b.value) supplies.old.items) (boxes_seen (λ b. (⟦<dyn Supply as Supply>⟧ b.vtable).rows_left b.value) (λ b. (⟦<dyn Supply as Supply>⟧ b.vtable).supply_faults b.value) supplies.new.items) session)
+        (λ status. RunRefuses (run_named job.now)
+        (record { files = S.files store.old; reads = S.read_faults store.old; writes = S.write_faults store.old; bad = S.bad_name store.old })
+        (record { files = S.files store.new; reads = S.read_faults store.new; writes = S.write_faults store.new; bad = S.bad_name store.new })
+        (boxes_seen (λ b. (⟦<dyn Supply as Supply>⟧ b.vtable).rows_left b.value) (λ b. (⟦<dyn Supply as Supply>⟧ b.vtable).supply_faults b.value) supplies.old.items) (boxes_seen (λ b. (⟦<dyn Supply as Supply>⟧ b.vtable).rows_left b.value) (λ b. (⟦<dyn Supply as Supply>⟧ b.vtable).supply_faults b.value) supplies.new.items) (answer_of status)) }
+{
+    let texts = texts_of(alloc, job, store)?;
+    let holdings = holdings_of(alloc, job, &texts)?;
+    match loaded(alloc, job.steps, holdings, supplies) {
+        Ok(session) => Ok(session),
+        Err(_) => Err(Status::Memory),
+    }
+}
+
+/// How a job ends whose run, or say, ended so.
+pub fn status_of(end: End) -> Status
+    ensures { answer_of result ≡ came_of end }
+{
+    match end {
+        End::Ended(_) => Status::Done,
+        End::Trapped(word) => Status::Trapped { word },
+        End::PowerFault => Status::PowerFault,
+        End::SupplyEnded => Status::SupplyEnded,
+        End::StepLimit => Status::StepLimit,
+        End::MachineFault { pc, why } => Status::MachineFault { pc, why },
+        End::SupplyFault => Status::SupplyFault,
+    }
+}
+
+/// Runs the device over the rows of the supplies, and leaves the boxes that weren't dropped. It puts the lines of the run. Where
+/// the output, of this name, fails, that is the status.
+pub fn session_ends<K: Sink>(
+    alloc: Global,
+    session: Session,
+    name: String,
+    supplies: &mut Vec<Box<dyn Supply>>,
+    sink: &mut K,
+) -> Status
+    requires fresh { session.core.counts ≡ no_counts }
+    requires off { session.core.machine.phase ≡ Off }
+    requires few_steps { session.steps ≤ 1000000000 }
+    requires few_rows { length (all_rows (λ b. (⟦<dyn Supply as Supply>⟧ b.vtable).rows_left b.value) supplies.old.items) < 2 ^ 33 }
+    requires output { string_bytes name ≡ output }
+    ensures { IsShown session.board session.input.items session.steps (state_of session.core.machine)
+        (boxes_seen (λ b. (⟦<dyn Supply as Supply>⟧ b.vtable).rows_left b.value) (λ b. (⟦<dyn Supply as Supply>⟧ b.vtable).supply_faults b.value) supplies.old.items) (boxes_seen (λ b. (⟦<dyn Supply as Supply>⟧ b.vtable).rows_left b.value) (λ b. (⟦<dyn Supply as Supply>⟧ b.vtable).supply_faults b.value) supplies.new.items)
+        (K.taken sink.old) (K.taken sink.new) (K.faults sink.old) (K.faults sink.new) (answer_of result) }
+{
+    let mut bench = Bench::new(mem::replace(supplies, Vec::new(alloc)));
+    let told = run(
+        session.core,
+        &mut bench,
+        &session.board,
+        &session.input,
+        session.steps,
+        sink,
+    );
+    *supplies = bench.boxes();
+    match told {
+        Ok(end) => status_of(end),
+        Err(_) => Status::WriteFault { name },
+    }
+}
