@@ -32,7 +32,7 @@ module _ (words : List Text) (files : Files) (boxes : List Box) where
   caused job asks (not_built Words) h = absurd h
   caused job asks (not_built Program) h = inl (job, asks, h)
   caused job asks (needs_checkpoint need budget) h = inl (job, asks, h)
-  caused job asks (program_refused fault place) h = absurd h
+  caused job asks (program_refused fault place) h = inl (job, asks, h)
   caused job asks (image_refused fault at) h = absurd h
   caused job asks (text_refused name at) h = absurd h
   caused job asks (stopped stop) h = absurd h
@@ -184,7 +184,6 @@ module _ (words : List Text) (old new : Seen) (job : Build) (e : AskBuild words 
   build_read_rose usage h less = absurd h.1
   build_read_rose (not_built Words) h less = absurd h.1
   build_read_rose (too_large name seen) h less = absurd (grew_not old.reads new.reads h.1.2 less)
-  build_read_rose (program_refused fault place) h less = absurd h.1
   build_read_rose (image_refused fault at) h less = absurd h.1
   build_read_rose (text_refused name at) h less = absurd h.1
   build_read_rose (stopped stop) h less = absurd h.1
@@ -240,7 +239,7 @@ module _ (words : List Text) (old new : Seen) (job : Build) (e : AskBuild words 
   build_leaves (board_refused kind key) h = same_told words (board_refused kind key) (λ x y k. k) old.files new.files h.0.files
   build_leaves (too_large name seen) h = same_told words (too_large name seen) (λ x y k. k) old.files new.files h.0.files
   build_leaves (not_built what) h = same_told words (not_built what) (λ x y k. k) old.files new.files h.0.files
-  build_leaves (program_refused fault place) h = absurd h.1
+  build_leaves (program_refused fault place) h = same_told words (program_refused fault place) (λ x y k. k) old.files new.files h.0.files
   build_leaves (image_refused fault at) h = absurd h.1
   build_leaves (text_refused name at) h = absurd h.1
   build_leaves (stopped stop) h = absurd h.1

@@ -2,7 +2,7 @@
 use Rattle.std.proofs.Common.{List, Option, Some, None, ⊎_elim}
 use Rattle.base_io.specs.Files.{Files}
 use Rattle.emit_layout.specs.Straight.{straight_blocks}
-use Rattle.emit_layout.specs.StraightTheorem.{AreStraightHeld, AreStraightImages, StraightImagesAgree, StraightImagesEndure}
+use Rattle.emit_layout.specs.StraightTheorem.{AreStraightHeld, AreStraightImages, TypedImagesAgree, TypedImagesEndure}
 use Rattle.commands.specs.Words.{Text, Build, AskBuild}
 use Rattle.commands.specs.Answers.{done}
 use Rattle.commands.specs.Left.{AskedAndBuilt, LeavesTold}
@@ -10,25 +10,25 @@ use Rattle.commands.specs.Headline.{IsKept, IsKeptTold}
 use Rattle.commands.proofs.Asks.{build_or_say}
 use Rattle.commands.proofs.Clauses.{build_or_run}
 
-module _ (agree : StraightImagesAgree) (endure : StraightImagesEndure) (images : AreStraightImages) (held : AreStraightHeld) (words : List Text) where
+module _ (agree : TypedImagesAgree) (endure : TypedImagesEndure) (images : AreStraightImages) (held : AreStraightHeld) (words : List Text) where
   kept : (old new : Files) → AskedAndBuilt words old new → IsKept words old new
   kept old new (job, e, b) = record {
     job = job;
     asks = e;
     text = b.text;
     program_file = b.read.program.there;
-    statements = b.statements;
-    program = b.fine.program;
+    program = b.fine.program.program;
+    is_program = b.fine.program.is_text;
     bytes = b.bytes;
     board_file = b.read.board.there;
     board = b.board;
     is_board = b.fine.board_file;
     image = straight_blocks b.statements;
-    is_image = images b.statements b.fine.program.few;
-    held = held b.statements (b.fine.program.valid, b.fine.program.few);
+    is_image = images b.statements b.fine.program.straight.few;
+    held = held b.statements (b.fine.program.straight.valid, b.fine.program.straight.few);
     written = b.written;
-    agrees = agree b.board b.statements (b.fine.program.valid, b.fine.program.few) b.fine.fits;
-    endures = endure b.board b.statements (b.fine.program.valid, b.fine.program.few);
+    agrees = agree b.board b.fine.program.program b.statements b.fine.program.straight b.fine.fits;
+    endures = endure b.board b.fine.program.program b.statements b.fine.program.straight;
   }
 
   pub kept_told : (job : Build) → AskBuild words job → (old new : Option Files) → LeavesTold words done old new → IsKeptTold words old new

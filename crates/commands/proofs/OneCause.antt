@@ -5,8 +5,15 @@ use Rattle.base_io.specs.Files.{Files}
 use Rattle.board_table.proofs.Exact.{board_or_fault, one_fault}
 use Rattle.board_table.specs.declared.board.Board.{Board}
 use Rattle.emit_layout.specs.Straight.{straight_need}
-use Rattle.straight_programs.specs.Text.{IsNoProgram, IsProgram}
-use Rattle.straight_programs.proofs.Spelling.{one_list}
+use Rattle.base_io.specs.declared.place.Place.{Place}
+use Rattle.c_tree.specs.declared.tree.Program.{Program}
+use Rattle.program_texts.specs.Front.{HasFault, IsTextOf}
+use Rattle.program_texts.specs.declared.fault.ProgramFault.{ProgramFault}
+use Rattle.program_texts.specs.declared.fault.ProgramFault.TheVariants.{Refused, Memory}
+use Rattle.program_texts.specs.declared.fault.ProgramRefusal.{ProgramRefusal}
+use Rattle.program_texts.proofs.Readings.{one_reading}
+use Rattle.straight_programs.specs.Shape.{IsStraight}
+use Rattle.straight_programs.proofs.Shapes.{one_shape}
 use Rattle.straight_programs.specs.declared.program.Statement.{Statement}
 use Rattle.job_parts.specs.Asked.{asked}
 use Rattle.commands.specs.Words.{Text, Build, Run, Say, AskBuild, AskRun, AskSay, AskUnbuilt}
@@ -20,6 +27,7 @@ use Rattle.commands.specs.Answers.{Answer, done, usage, read_fault, write_fault,
 use Rattle.commands.specs.Running.{Box, IsNoBoard, RunCauses}
 use Rattle.commands.specs.Causes.{AreRead, AreRefused, AsksFor, Causes, HasCause, IsFine, IsReached, IsRead, IsRefused, IsTooDear, most_bytes}
 use Rattle.commands.specs.Faults.{IsDecided}
+use Rattle.commands.specs.Programs.{IsOtherText, IsStraightText}
 use Rattle.commands.specs.Laws.{DecideOne}
 use Rattle.commands.specs.declared.status.BoardRefusal.{BoardRefusal}
 use Rattle.commands.specs.declared.status.Unbuilt.TheVariants.{Words, Program}
@@ -27,35 +35,74 @@ use Rattle.commands.specs.declared.status.Unbuilt.TheVariants.{Words, Program}
 some_same : {A : Type 0} (x y : A) → (let s : Option A = Some x in s ≡ Some y) → x ≡ y
 some_same x y e = cc
 
+-- ---- A text comes to one reading
+
+told : (f : ProgramRefusal) (at : Place) → Refused f at ≡ Memory → ⊥
+told f at e = cc
+
+abbrev refusal_of : ProgramFault → Answer
+refusal_of (Refused f at) = program_refused f at
+refusal_of Memory = no_memory
+
+module _ (text : Text) where
+  faults_same : (f g : ProgramRefusal) (m n : Place) → HasFault text (Refused f m) → HasFault text (Refused g n) → program_refused f m ≡ program_refused g n
+  faults_same f g m n h k = ap refusal_of ((one_reading text).fault (Refused f m) (Refused g n) (told f m) (told g n) h k)
+
+  -- a text with a fault is that of no program
+  either : (p : Program) (f : ProgramRefusal) (at : Place) → IsTextOf text p → HasFault text (Refused f at) → ⊥
+  either p f at t h = (one_reading text).either p (Refused f at) (told f at) t h
+
+  same_program : (p q : Program) → IsTextOf text p → IsTextOf text q → p ≡ q
+  same_program p q h k = (one_reading text).program p q h k
+
+  -- a text of one stretch has one list of statements, and isn't of another form
+  same_statements : (xs ys : List Statement) → IsStraightText text xs → IsStraightText text ys → xs ≡ ys
+  same_statements xs ys h k =
+      one_shape k.program xs ys (subst (λ p. IsStraight p xs) (same_program h.program k.program h.is_text k.is_text) h.straight) k.straight
+
+  not_other : (xs : List Statement) → IsOtherText text → IsStraightText text xs → ⊥
+  not_other xs (p, t, other) k = other xs (subst (λ q. IsStraight q xs) (same_program k.program p k.is_text t) k.straight)
+
 -- ---- Two texts come to one answer
 
 -- what two texts come to
 data Verdict (wanted : Option ℕ) (text bytes : Text) : Answer → Type 0 where
-  none : IsNoProgram text → Verdict wanted text bytes (not_built Program)
-  board : (statements : List Statement) (kind : BoardRefusal) (key : Text) → IsProgram text statements → IsNoBoard bytes kind key → Verdict wanted text bytes (board_refused kind key)
+  refused : (f : ProgramRefusal) (at : Place) → HasFault text (Refused f at) → Verdict wanted text bytes (program_refused f at)
+  none : IsOtherText text → Verdict wanted text bytes (not_built Program)
+  board : (statements : List Statement) (kind : BoardRefusal) (key : Text) → IsStraightText text statements → IsNoBoard bytes kind key → Verdict wanted text bytes (board_refused kind key)
   dear : (need budget : ℕ) → IsTooDear wanted text bytes need budget → Verdict wanted text bytes (needs_checkpoint need budget)
   fine : (statements : List Statement) (b : Board) → IsFine wanted text bytes statements b → Verdict wanted text bytes done
 
 module _ (wanted : Option ℕ) (text bytes : Text) where
-  no_program_verdict : IsNoProgram text → (a : Answer) → Verdict wanted text bytes a → not_built Program ≡ a
-  no_program_verdict never _ (none h) = refl
-  no_program_verdict never _ (board statements kind key p h) = absurd (never statements p)
-  no_program_verdict never _ (dear need budget h) = absurd (never h.statements h.program)
-  no_program_verdict never _ (fine statements b h) = absurd (never statements h.program)
+  no_program_verdict : IsOtherText text → (a : Answer) → Verdict wanted text bytes a → not_built Program ≡ a
+  no_program_verdict other _ (refused f at h) = absurd (either text other.0 f at other.1 h)
+  no_program_verdict other _ (none h) = refl
+  no_program_verdict other _ (board statements kind key p h) = absurd (not_other text statements other p)
+  no_program_verdict other _ (dear need budget h) = absurd (not_other text h.statements other h.program)
+  no_program_verdict other _ (fine statements b h) = absurd (not_other text statements other h.program)
 
-  board_verdict : (statements : List Statement) (kind : BoardRefusal) (key : Text) → IsProgram text statements → IsNoBoard bytes kind key → (a : Answer) → Verdict wanted text bytes a → board_refused kind key ≡ a
-  board_verdict statements kind key p h _ (none k) = absurd (k statements p)
+  fault_verdict : (f : ProgramRefusal) (at : Place) → HasFault text (Refused f at) → (a : Answer) → Verdict wanted text bytes a → program_refused f at ≡ a
+  fault_verdict f at h _ (refused g place k) = faults_same text f g at place h k
+  fault_verdict f at h _ (none other) = absurd (either text other.0 f at other.1 h)
+  fault_verdict f at h _ (board statements kind key p k) = absurd (either text p.program f at p.is_text h)
+  fault_verdict f at h _ (dear need budget k) = absurd (either text k.program.program f at k.program.is_text h)
+  fault_verdict f at h _ (fine statements b k) = absurd (either text k.program.program f at k.program.is_text h)
+
+  board_verdict : (statements : List Statement) (kind : BoardRefusal) (key : Text) → IsStraightText text statements → IsNoBoard bytes kind key → (a : Answer) → Verdict wanted text bytes a → board_refused kind key ≡ a
+  board_verdict statements kind key p h _ (refused f at k) = absurd (either text p.program f at p.is_text k)
+  board_verdict statements kind key p h _ (none k) = absurd (not_other text statements k p)
   board_verdict statements kind key p h _ (board others also keys q k) =
       refusal_same bytes kind also key keys h k (one_fault bytes (named kind key) (named also keys) (refused_as bytes kind key h) (refused_as bytes also keys k))
   board_verdict statements kind key p h _ (dear need budget k) = absurd (board_or_fault bytes k.board_file.own (named kind key) k.board_file.is_board (refused_as bytes kind key h))
   board_verdict statements kind key p h _ (fine others b k) = absurd (board_or_fault bytes k.board_file.own (named kind key) k.board_file.is_board (refused_as bytes kind key h))
 
   -- what a program and a board need is one number
-  needs_same : (xs ys : List Statement) (b c : Board) → IsProgram text xs → IsProgram text ys → IsBoardWith wanted bytes b → IsBoardWith wanted bytes c → straight_need b xs ≡ straight_need c ys
-  needs_same xs ys b c p q h k = ap₂ straight_need (one_board_with wanted bytes b c h k) (one_list text xs ys p q)
+  needs_same : (xs ys : List Statement) (b c : Board) → IsStraightText text xs → IsStraightText text ys → IsBoardWith wanted bytes b → IsBoardWith wanted bytes c → straight_need b xs ≡ straight_need c ys
+  needs_same xs ys b c p q h k = ap₂ straight_need (one_board_with wanted bytes b c h k) (same_statements text xs ys p q)
 
   dear_verdict : (need budget : ℕ) → IsTooDear wanted text bytes need budget → (a : Answer) → Verdict wanted text bytes a → needs_checkpoint need budget ≡ a
-  dear_verdict need budget h _ (none k) = absurd (k h.statements h.program)
+  dear_verdict need budget h _ (refused f at k) = absurd (either text h.program.program f at h.program.is_text k)
+  dear_verdict need budget h _ (none k) = absurd (not_other text h.statements k h.program)
   dear_verdict need budget h _ (board statements kind key p k) = absurd (board_or_fault bytes h.board_file.own (named kind key) h.board_file.is_board (refused_as bytes kind key k))
   dear_verdict need budget h _ (dear also budgets k) =
       ap₂ (λ x y. needs_checkpoint x y)
@@ -70,10 +117,12 @@ module _ (wanted : Option ℕ) (text bytes : Text) where
       above n m k l e f lt le = omega arith
 
 one_verdict : (wanted : Option ℕ) (text bytes : Text) (a b : Answer) → Verdict wanted text bytes a → Verdict wanted text bytes b → a ≡ b
+one_verdict wanted text bytes _ b (refused f at h) k = fault_verdict wanted text bytes f at h b k
 one_verdict wanted text bytes _ b (none h) k = no_program_verdict wanted text bytes h b k
 one_verdict wanted text bytes _ b (board statements kind key p h) k = board_verdict wanted text bytes statements kind key p h b k
 one_verdict wanted text bytes _ b (dear need budget h) k = dear_verdict wanted text bytes need budget h b k
-one_verdict wanted text bytes _ b (fine statements c h) (none k) = absurd (k statements h.program)
+one_verdict wanted text bytes _ b (fine statements c h) (refused f at k) = absurd (either text h.program.program f at h.program.is_text k)
+one_verdict wanted text bytes _ b (fine statements c h) (none k) = absurd (not_other text statements k h.program)
 one_verdict wanted text bytes _ b (fine statements c h) (board others kind key p k) = absurd (board_or_fault bytes h.board_file.own (named kind key) h.board_file.is_board (refused_as bytes kind key k))
 one_verdict wanted text bytes _ b (fine statements c h) (dear need budget k) = sym (dear_verdict wanted text bytes need budget k done (fine statements c h))
 one_verdict wanted text bytes _ b (fine statements c h) (fine others d k) = refl
@@ -124,7 +173,7 @@ module _ (job : Build) (files : Files) where
   refused_verdict text bytes (read_fault name) d h = absurd h
   refused_verdict text bytes (write_fault name) d h = absurd h
   refused_verdict text bytes (too_large name seen) d h = absurd h
-  refused_verdict text bytes (program_refused fault place) d h = absurd h
+  refused_verdict text bytes (program_refused fault place) d h = refused fault place h
   refused_verdict text bytes (image_refused fault at) d h = absurd h
   refused_verdict text bytes (text_refused name at) d h = absurd h
   refused_verdict text bytes (stopped stop) d h = absurd h
@@ -147,7 +196,7 @@ module _ (job : Build) (files : Files) where
   finding (not_built Program) d h = refused_finding (not_built Program) d h
   finding (board_refused kind key) d h = refused_finding (board_refused kind key) d h
   finding (needs_checkpoint need budget) d h = refused_finding (needs_checkpoint need budget) d h
-  finding (program_refused fault place) d h = absurd h
+  finding (program_refused fault place) d h = refused_finding (program_refused fault place) d h
   finding (image_refused fault at) d h = absurd h
   finding (text_refused name at) d h = absurd h
   finding (stopped stop) d h = absurd h

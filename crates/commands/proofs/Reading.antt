@@ -25,7 +25,7 @@ module _ (job : Build) (files : Files) (text bytes : Text) (read : AreRead job f
   refused (read_fault name) h = absurd h
   refused (write_fault name) h = absurd h
   refused (too_large name seen) h = absurd h
-  refused (program_refused fault place) h = absurd h
+  refused (program_refused fault place) h = (text, bytes, read, h)
   refused (image_refused fault at) h = absurd h
   refused (text_refused name at) h = absurd h
   refused (stopped stop) h = absurd h

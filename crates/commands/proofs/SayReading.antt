@@ -10,7 +10,8 @@ use Rattle.commands.specs.Opening.{AreNotHad, CountsUnhad, IsTextRefused}
 use Rattle.commands.specs.Parts.{CountsUnread, IsUnread}
 use Rattle.commands.specs.Reads.{AreHad, IsHad, IsReached, Wanted}
 use Rattle.commands.specs.SayJob.{CountsHolding}
-use Rattle.commands.specs.SayParts.{Held, IsHeldOf, IsProgramText}
+use Rattle.commands.specs.Programs.{IsProgramText}
+use Rattle.commands.specs.SayParts.{Held, IsHeldOf}
 use Rattle.commands.specs.Saying.{Hold, IsSayRefused, SayCauses, say_files, say_wanted, two_texts}
 use Rattle.commands.specs.Words.{Text, Say}
 use Rattle.commands.specs.declared.saying.Saying.{Saying}

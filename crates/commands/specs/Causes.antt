@@ -3,11 +3,13 @@ use Rattle.std.specs.Prelude.{◌≡◌, ◌≢◌, ◌<◌, ◌≤◌, ◌⊎�
 use Rattle.base_io.specs.Files.{Files}
 use Rattle.board_table.specs.declared.board.Board.{Board}
 use Rattle.emit_layout.specs.Straight.{straight_need}
-use Rattle.straight_programs.specs.Text.{IsNoProgram, IsProgram}
+use Rattle.program_texts.specs.Front.{HasFault}
+use Rattle.program_texts.specs.declared.fault.ProgramFault.TheVariants.{Refused}
 use Rattle.straight_programs.specs.declared.program.Statement.{Statement}
 use Rattle.job_parts.specs.Asked.{asked}
 use Rattle.commands.specs.Words.{Text, Build, Run, Say, AskBuild, AskRun, AskSay, AskUnbuilt}
 use Rattle.commands.specs.Budget.{IsBoardWith}
+use Rattle.commands.specs.Programs.{IsOtherText, IsStraightText}
 use Rattle.commands.specs.Reads.{IsHad}
 use Rattle.commands.specs.Running.{Box, IsNoBoard, RunCauses}
 use Rattle.commands.specs.Saying.{SayCauses}
@@ -20,7 +22,7 @@ use Rattle.commands.specs.declared.status.Unbuilt.TheVariants.{Words, Program}
 pub record IsTooDear (wanted : Option ℕ) (text bytes : Text) (need budget : ℕ) : Type 0 where
   pub statements : List Statement
   pub board : Board
-  pub program : IsProgram text statements
+  pub program : IsStraightText text statements
   pub board_file : IsBoardWith wanted bytes board
   pub needs : need ≡ straight_need board statements
   pub has : budget ≡ board.budget
@@ -28,14 +30,15 @@ pub record IsTooDear (wanted : Option ℕ) (text bytes : Text) (need budget : �
 
 -- a program and a board on which it fits one charge
 pub record IsFine (wanted : Option ℕ) (text bytes : Text) (statements : List Statement) (board : Board) : Type 0 where
-  pub program : IsProgram text statements
+  pub program : IsStraightText text statements
   pub board_file : IsBoardWith wanted bytes board
   pub fits : straight_need board statements ≤ board.budget
 
 -- why two texts are refused under the budget that is asked for: the program first, then the board, and then what they need together
 abbrev pub IsRefused : Option ℕ → Text → Text → Answer → Type 0
-IsRefused wanted text bytes (not_built Program) = IsNoProgram text
-IsRefused wanted text bytes (board_refused kind key) = ((statements : List Statement) × IsProgram text statements) × IsNoBoard bytes kind key
+IsRefused wanted text bytes (program_refused fault place) = HasFault text (Refused fault place)
+IsRefused wanted text bytes (not_built Program) = IsOtherText text
+IsRefused wanted text bytes (board_refused kind key) = ((statements : List Statement) × IsStraightText text statements) × IsNoBoard bytes kind key
 IsRefused wanted text bytes (needs_checkpoint need budget) = IsTooDear wanted text bytes need budget
 IsRefused wanted text bytes (not_built Words) = ⊥
 IsRefused wanted text bytes no_memory = ⊤
@@ -45,7 +48,6 @@ IsRefused wanted text bytes (read_fault name) = ⊥
 IsRefused wanted text bytes (write_fault name) = ⊥
 IsRefused wanted text bytes (too_large name seen) = ⊥
 IsRefused wanted text bytes (image_refused fault at) = ⊥
-IsRefused wanted text bytes (program_refused fault place) = ⊥
 IsRefused wanted text bytes (text_refused name at) = ⊥
 IsRefused wanted text bytes (stopped stop) = ⊥
 
@@ -87,7 +89,7 @@ Causes job files (not_built Program) = AreRefused job files (not_built Program)
 Causes job files (board_refused kind key) = AreRefused job files (board_refused kind key)
 Causes job files (needs_checkpoint need budget) = AreRefused job files (needs_checkpoint need budget)
 Causes job files (image_refused fault at) = ⊥
-Causes job files (program_refused fault place) = ⊥
+Causes job files (program_refused fault place) = AreRefused job files (program_refused fault place)
 Causes job files (text_refused name at) = ⊥
 Causes job files (stopped stop) = ⊥
 

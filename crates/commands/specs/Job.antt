@@ -8,7 +8,7 @@ use Rattle.emit_layout.specs.Operations.{objects_of}
 use Rattle.emit_layout.specs.Straight.{straight_blocks}
 use Rattle.straight_programs.specs.declared.program.Statement.{Statement}
 use Rattle.commands.specs.Words.{Text, Build}
-use Rattle.commands.specs.Answers.{Answer, done, usage, read_fault, write_fault, no_memory, too_large, not_built, image_refused, program_refused, text_refused, stopped, line_of, built_line}
+use Rattle.commands.specs.Answers.{Answer, done, usage, read_fault, write_fault, no_memory, too_large, not_built, image_refused, text_refused, stopped, line_of, built_line}
 use Rattle.commands.specs.Causes.{AreRead, Causes, IsFine, most_bytes}
 use Rattle.commands.specs.Left.{IsBuilt}
 use Rattle.commands.specs.declared.status.Unbuilt.TheVariants.{Words}
@@ -50,7 +50,6 @@ CountsReading job before now bad usage = ⊥
 CountsReading job before now bad (write_fault name) = ⊥
 CountsReading job before now bad (not_built Words) = ⊥
 CountsReading job before now bad (image_refused fault at) = ⊥
-CountsReading job before now bad (program_refused fault place) = ⊥
 CountsReading job before now bad (text_refused name at) = ⊥
 CountsReading job before now bad (stopped stop) = ⊥
 CountsReading job before now bad a = now ≡ before

@@ -18,6 +18,7 @@ pub mod Laws
 pub mod InCode
 pub mod Opening
 pub mod Begun
+pub mod Programs
 pub mod Refusing
 pub mod Parts
 pub mod SayParts

@@ -3,15 +3,17 @@ use Rattle.std.specs.Prelude.{◌≡◌, ◌<◌, ◌⊎◌, ◌+◌, ◌*◌, �
 use Rattle.base_io.specs.Counts.{Rose}
 use Rattle.base_io.specs.Files.{Files, WritesTold}
 use Rattle.board_table.specs.declared.board.Board.{Board}
-use Rattle.straight_programs.specs.Text.{IsNoProgram}
+use Rattle.program_texts.specs.Front.{HasFault}
+use Rattle.program_texts.specs.declared.fault.ProgramFault.TheVariants.{Refused}
 use Rattle.ti_txt.specs.Spelling.{text_of}
 use Rattle.emit_layout.specs.Operations.{objects_of}
 use Rattle.emit_layout.specs.Straight.{straight_blocks}
 use Rattle.straight_programs.specs.declared.program.Statement.{Statement}
 use Rattle.commands.specs.Words.{Text, Build}
-use Rattle.commands.specs.Answers.{Answer, answer_of, done, read_fault, write_fault, no_memory, board_refused, too_large, not_built, line_of, built_line}
+use Rattle.commands.specs.Answers.{Answer, answer_of, done, read_fault, write_fault, no_memory, board_refused, too_large, not_built, program_refused, line_of, built_line}
 use Rattle.commands.specs.Running.{IsNoBoard}
 use Rattle.commands.specs.Causes.{AreRead, IsFine}
+use Rattle.commands.specs.Programs.{IsOtherText}
 use Rattle.commands.specs.Job.{IsFailedWrite, Seen, code_size}
 use Rattle.commands.specs.declared.status.Status.{Status}
 use Rattle.commands.specs.declared.status.Unbuilt.TheVariants.{Words, Program}
@@ -23,7 +25,8 @@ IsOrNoMemory s a = (answer_of s ≡ a) ⊎ (answer_of s ≡ no_memory)
 -- ---- The texts
 
 abbrev pub IsProgramRefused : Text → Answer → Type 0
-IsProgramRefused text (not_built Program) = IsNoProgram text
+IsProgramRefused text (program_refused fault place) = HasFault text (Refused fault place)
+IsProgramRefused text (not_built Program) = IsOtherText text
 IsProgramRefused text (not_built Words) = ⊥
 IsProgramRefused text no_memory = ⊤
 IsProgramRefused text a = ⊥

@@ -1,20 +1,22 @@
-ghost use Rattle.std.specs.Prelude.{◌≡◌, ◌*◌, ◌≤◌, map, sum_by, IfOk, IfSome, MatchResult, string_bytes};
+ghost use Rattle.std.specs.Prelude.{◌≡◌, ◌*◌, ◌≤◌, length, map, sum_by, IfOk, IfSome, MatchResult, string_bytes};
 ghost use Rattle.emit_layout.specs.Operations.{objects_of};
 ghost use Rattle.emit_layout.specs.Straight.{straight_blocks};
-ghost use Rattle.straight_programs.specs.Text.{IsProgram, statement_operations};
+ghost use Rattle.straight_programs.specs.Statements.{statement_operations};
 ghost use Rattle.ti_txt.specs.Image.{block_of};
 ghost use Rattle.ti_txt.specs.Spelling.{text_of};
 ghost use Rattle.commands.specs.Answers.{answer_of, built_line};
 ghost use Rattle.commands.specs.Causes.{IsRefused};
 ghost use Rattle.commands.specs.Parts.{IsProgramRefused, IsReadyOf};
 ghost use Rattle.commands.specs.Job.{code_size};
+ghost use Rattle.commands.specs.Programs.{IsStraightText};
 
 use crate::boards::board_with;
+use crate::saying::program_in;
 use crate::{Status, Unbuilt};
 use base_io::Memory;
 use emit_layout::{data_bytes, straight_image, straight_need};
 use std::alloc::Global;
-use straight_programs::{Statement, read_program};
+use straight_programs::{Statement, straight_of};
 use ti_txt::{Segment, write};
 
 /// The bytes of the image's text, and the line that tells what was built.
@@ -26,9 +28,14 @@ pub struct Ready {
 
 // The statements of the program of this text.
 fn statements_of(alloc: Global, text: &[u8]) -> Result<Vec<Statement>, Status>
-    ensures { MatchResult result (λ v. IsProgram text.now v.items) (λ s. IsProgramRefused text.now (answer_of s)) }
+    requires short { length text.now ≤ 65536 }
+    ensures { MatchResult result (λ v. IsStraightText text.now v.items) (λ s. IsProgramRefused text.now (answer_of s)) }
 {
-    match read_program(alloc, text) {
+    let program = match program_in(alloc, text) {
+        Ok(program) => program,
+        Err(status) => return Err(status),
+    };
+    match straight_of(alloc, &program) {
         Ok(Some(statements)) => Ok(statements),
         Ok(None) => Err(Status::NotBuilt {
             what: Unbuilt::Program,
@@ -45,6 +52,7 @@ pub fn ready_of(
     budget: Option<u64>,
 ) -> Result<Ready, Status>
     requires range { IfSome budget (λ n. (1 ≤ n) × (n ≤ 1000000000)) }
+    requires short { length program.now ≤ 65536 }
     ensures { MatchResult result
         (λ r. IsReadyOf budget program.now board.now r.text.items (string_bytes r.line))
         (λ s. IsRefused budget program.now board.now (answer_of s)) }

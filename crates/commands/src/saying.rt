@@ -7,7 +7,8 @@ ghost use Rattle.commands.specs.Call.{Puts};
 ghost use Rattle.commands.specs.Causes.{output};
 ghost use Rattle.commands.specs.InCode.{say_named};
 ghost use Rattle.commands.specs.SayJob.{CountsHolding, IsSaid};
-ghost use Rattle.commands.specs.SayParts.{Held, IsHeldOf, IsProgramText};
+ghost use Rattle.commands.specs.Programs.{IsProgramText};
+ghost use Rattle.commands.specs.SayParts.{Held, IsHeldOf};
 ghost use Rattle.commands.specs.Saying.{IsSayRefused, SayCauses};
 
 use crate::Status;
@@ -32,8 +33,8 @@ pub struct Saying {
     pub steps: u64,
 }
 
-// The program of a text.
-fn program_in(alloc: Global, text: &[u8]) -> Result<Program, Status>
+/// The program of a text.
+pub fn program_in(alloc: Global, text: &[u8]) -> Result<Program, Status>
     requires { length text.now ≤ 65536 }
     ensures { MatchResult result (λ p. IsTextOf text.now p) (λ s. IsProgramText text.now (answer_of s)) }
 {

@@ -67,6 +67,12 @@ const UNFORMED: Row = Row {
     ..FIRST
 };
 
+const UNREADABLE_PROGRAM: Row = Row {
+    code: 6,
+    image: None,
+    ..FIRST
+};
+
 const REFUSED: Row = Row {
     code: 7,
     image: None,
@@ -114,7 +120,7 @@ const UNPUT: Row = Row {
 };
 
 /// The first program alone, then what is built, needs too much, is no board or no program, isn't read, written or put.
-static ROWS: [Row; 35] = [
+static ROWS: [Row; 42] = [
     FIRST,
     Row {
         statements: ("unsigned int a=in();out(a+1u);", 1),
@@ -267,17 +273,67 @@ static ROWS: [Row; 35] = [
         words: &["build", "p.c", "empty", "p.txt", "p.cert"],
         ..REFUSED
     },
+    // Names, white space, comments and spellings of numbers are free.
     Row {
-        statements: ("out(07);", 1),
-        ..UNFORMED
-    },
-    Row {
-        words: &["build", "empty", "b.toml", "p.txt", "p.cert"],
-        ..UNFORMED
+        statements: (" out (\t0x7u )\n; /* seven */ ", 1),
+        ..FIRST
     },
     Row {
         statements: (" ", 65511),
+        put: "built code 46 data 0 chains 1\n",
+        image: Some(
+            "@1800\n01 00 24 80 00 80\n@8000\n\
+        92 93 00 18 04 20 11 42 04 18 10 42 02 18 A2 42\n\
+        06 0F 82 41 04 18 B2 40 24 80 02 18 92 43 00 18\n\
+        32 D0 10 00 82 43 00 18 0F 43 82 4F 04 0F\n\
+        @FFFE\n00 80\nq\n",
+        ),
+        ..FIRST
+    },
+    // Other statements and expressions aren't built yet, and are told before the board's fault.
+    Row {
+        statements: ("out(1u+2u+3u);", 1),
         ..UNFORMED
+    },
+    Row {
+        words: &["build", "p.c", "empty", "p.txt", "p.cert"],
+        statements: ("if(in())out(7);", 1),
+        ..UNFORMED
+    },
+    Row {
+        statements: ("out(7);", 255),
+        status: "NeedsCheckpoint { need: 3134, budget: 2000 }",
+        put: "needs checkpoint: 3134 of 2000\n",
+        ..DEAR
+    },
+    Row {
+        statements: ("out(7);", 256),
+        ..UNFORMED
+    },
+    // A fault of the program is told before the board's.
+    Row {
+        words: &["build", "empty", "empty", "p.txt", "p.cert"],
+        status: "ProgramRefused { fault: NoMain, place: Place { line: 1, column: 1 } }",
+        put: "program refused: NoMain at 1:1\n",
+        ..UNREADABLE_PROGRAM
+    },
+    Row {
+        statements: ("out(`);", 1),
+        status: "ProgramRefused { fault: BadByte, place: Place { line: 1, column: 20 } }",
+        put: "program refused: BadByte at 1:20\n",
+        ..UNREADABLE_PROGRAM
+    },
+    Row {
+        statements: ("out(7)", 1),
+        status: "ProgramRefused { fault: Unexpected, place: Place { line: 1, column: 22 } }",
+        put: "program refused: Unexpected at 1:22\n",
+        ..UNREADABLE_PROGRAM
+    },
+    Row {
+        statements: ("out(x);", 1),
+        status: "ProgramRefused { fault: Unknown, place: Place { line: 1, column: 20 } }",
+        put: "program refused: Unknown at 1:20\n",
+        ..UNREADABLE_PROGRAM
     },
     Row {
         statements: (" ", 65512),

@@ -29,7 +29,7 @@ use crate::saying::{Saying, holding, said};
 use crate::session::{Session, opened, session_ends};
 use crate::{Status, Unbuilt};
 use base_io::{Memory, Sink, Store};
-use emit_layout::straight_images_agree;
+use emit_layout::{straight_images_agree, typed_images_agree};
 use job_parts::{Asked, Job, read_words};
 use std::alloc::Global;
 use supply_trace::Supply;
@@ -91,6 +91,7 @@ pub fn schematic<S: Store, K: Sink>(
         (answer_of result) }
 {
     straight_images_agree();
+    typed_images_agree();
     run(alloc, words, store, supplies, sink)
 }
 

@@ -1,22 +1,16 @@
 -- Programs worked by hand.
 use Rattle.std.proofs.Common.{◌≡◌, [], ◌∷◌, refl}
-use Rattle.std.specs.Prelude.{List, codes}
-use Rattle.std.specs.Fmt.{digits}
+use Rattle.std.specs.Prelude.{List}
 use Rattle.plain_meaning.specs.Behaviour.{Going, EndedWith}
 use Rattle.straight_programs.specs.declared.program.Part.TheVariants.{Name, Unsigned}
 use Rattle.straight_programs.specs.declared.program.Expression.TheVariants.{Number, Input, Sum}
 use Rattle.straight_programs.specs.declared.program.Statement.{Statement}
 use Rattle.straight_programs.specs.declared.program.Statement.TheVariants.{Declare, Assign, Put}
-use Rattle.straight_programs.specs.Text.{text_of}
 use Rattle.straight_programs.specs.Steps.{does, nodes_of}
 
--- one more than the input, by the letter a
+-- one more than the input, by the variable 97
 abbrev one_more : List Statement
 one_more = Declare 97 Input ∷ Put (Sum (Name 97) (Unsigned 1)) ∷ []
-
-spelled : text_of one_more ≡ codes "int main(void){unsigned int a=in();out(a+1u);return 0;}"
-unfolding digits
-spelled = refl
 
 -- the block, a declarator and its value, the statement, the call, the sum and its parts, the return and its value
 ten_nodes : nodes_of one_more ≡ 10

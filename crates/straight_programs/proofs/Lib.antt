@@ -1,6 +1,3 @@
-mod Digits
-mod Parts
-pub mod Spelling
 pub mod StraightLemmas
 mod Examples
 mod Taking

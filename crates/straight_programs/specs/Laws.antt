@@ -4,17 +4,12 @@ use Rattle.plain_meaning.specs.Behaviour.{Behaviour, Going, EndedWith, Begins, I
 use Rattle.c_tree.specs.declared.tree.Program.{Program}
 use Rattle.c_tree.specs.Meaning.{meaning}
 use Rattle.straight_programs.specs.declared.program.Statement.{Statement}
-use Rattle.straight_programs.specs.Text.{IsProgram}
 use Rattle.straight_programs.specs.Shape.{IsStraight}
 use Rattle.straight_programs.specs.Steps.{does, nodes_of}
 
 -- the words of a whole run
 abbrev pub all_words : List Statement → List ℕ → List ℕ
 all_words statements input = (does statements input (nodes_of statements)).words
-
--- a text is of one list of statements at most
-abbrev pub HasOneList : Type 0
-HasOneList = (text : List ℕ) (a b : List Statement) → IsProgram text a → IsProgram text b → a ≡ b
 
 abbrev pub AreSteady : Type 0
 AreSteady = (statements : List Statement) → IsSteady (does statements)

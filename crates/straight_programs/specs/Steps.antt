@@ -11,7 +11,7 @@ use Rattle.straight_programs.specs.declared.program.Statement.TheVariants.{Decla
 
 -- ---- Values
 
--- the word of each variable, by its letter
+-- the word of each variable, by its number
 abbrev pub Variables : Type 0
 Variables = ℕ → ℕ
 

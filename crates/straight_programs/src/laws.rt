@@ -1,5 +1,5 @@
 //! Laws of the programs: each contract is one, and the functions do nothing.
-ghost use Rattle.straight_programs.specs.Laws.{AreSteady, DoWhatStatementsDo, EndWithAll, GoOnBefore, HasOneList, HasOneShape};
+ghost use Rattle.straight_programs.specs.Laws.{AreSteady, DoWhatStatementsDo, EndWithAll, GoOnBefore, HasOneShape};
 
 /// With more steps a program puts no other words, and what has ended stays as it is.
 pub fn are_steady()
@@ -14,11 +14,6 @@ pub fn end_with_all()
 /// With fewer steps it goes on, and has put a front of these words.
 pub fn go_on_before()
     ensures { GoOnBefore }
-{}
-
-/// A text is of one list of statements at most.
-pub fn has_one_list()
-    ensures { HasOneList }
 {}
 
 /// A typed program of one stretch does what its statements do, step by step, on each input of words.

@@ -1,7 +1,7 @@
 /// A value that needs no operation of its own.
 #[derive(Clone, Copy, Debug, PartialEq, Eq)]
 pub enum Part {
-    /// A variable, by its letter.
+    /// A variable, by its number.
     Name(u8),
     /// A number with the suffix `u`.
     Unsigned(u16),

@@ -6,8 +6,8 @@ ghost use Rattle.straight_programs.specs.Shape.{IsStraight, IsNotStraight};
 ghost use Rattle.straight_programs.specs.Shaping as shape;
 ghost use Rattle.straight_programs.specs.Steps.{expression_steps, nodes_of, statement_steps};
 
+use super::operations::{MOST_OPERATIONS, operations_of};
 use super::program::{Expression, Part, Statement};
-use super::text::{MOST_OPERATIONS, operations_of};
 use base_io::Memory;
 use c_tree::{
     Action, BinaryOp, BlockItem, Declared, Expr, ExprKind, Function, Program, Stmt, StmtKind,
