@@ -30,7 +30,7 @@ const REFUSED: Row = Row { code: 6, ..SEVEN };
 
 const UNPUT: Row = Row { code: 4, ..SEVEN };
 
-static ROWS: [Row; 22] = [
+static ROWS: [Row; 23] = [
     SEVEN,
     Row {
         words: &["--steps", "7", "say", "p.c", "i.txt"],
@@ -94,6 +94,12 @@ static ROWS: [Row; 22] = [
     Row {
         program: "int main(void){return 0}",
         put: "program refused: Unexpected at 1:24\n",
+        ..REFUSED
+    },
+    // The longest token is taken: `a ++ + b`, and `++` is left out of the profile.
+    Row {
+        program: "int main(void){int a=1;int b=2;out(a+++b);return 0;}",
+        put: "program refused: NotInProfile at 1:37\n",
         ..REFUSED
     },
     Row {
