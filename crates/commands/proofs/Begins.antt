@@ -5,7 +5,7 @@ use Rattle.base_io.specs.declared.memory.Memory.{Memory}
 use Rattle.job_parts.specs.Asked.{Request, Task, asked, build, check, run, say, plan, gen}
 use Rattle.msp430_machine.specs.Views.{state_of}
 use Rattle.commands.specs.Answers.{Answer, answer_of, line_of, usage, no_memory, not_built}
-use Rattle.commands.specs.Begun.{FitBoxes, FitsBoxes, GivesUp, MatchBegun, MayRun, Opens, Speaks, TaskRuns, TaskSays}
+use Rattle.commands.specs.Begun.{FitBoxes, FitsBoxes, GivesUp, MatchBegun, MayRun, Opens, Speaks, TaskGivesUp, TaskRuns, TaskSays, WordsGiveUp}
 use Rattle.commands.specs.Call.{Called, ComesTo, IsRefusedAtOnce, Puts, Sunk, TaskEnds}
 use Rattle.commands.specs.Job.{Ends as BuildEnds, IsUnwritten, Seen}
 use Rattle.commands.specs.Refusing.{IsRefusal}
@@ -25,7 +25,7 @@ module _ (words : List Text) (old new : Seen) (before now : List Box) (sunk afte
   line_call came line comes puts = inl (record { came = came; line = line; comes = inl comes; puts = inl puts })
 
   -- there was no memory, and the line of that was put
-  pub memory_call : GivesUp old new before now → Puts no_memory (line_of [] no_memory) sunk after a → Called words old new before now sunk after a
+  pub memory_call : WordsGiveUp words old new before now → Puts no_memory (line_of [] no_memory) sunk after a → Called words old new before now sunk after a
   memory_call gives puts = inl (record {
     came = no_memory;
     line = line_of [] no_memory;
@@ -64,22 +64,33 @@ TaskBegins t budget steps old new before now r =
     MatchResult r
     (λ b. MatchBegun b (λ ending. TaskEnds t budget steps old new before now (answer_of ending.status) (string_bytes ending.line))
     (λ session. TaskRuns t budget steps old new before now session) (λ saying. TaskSays t steps old new before now saying))
-    (λ m. GivesUp old new before now)
+    (λ m. TaskGivesUp t old new before now)
 
 -- nothing was touched
-pub gives_up : (old : Seen) (before : List Box) → GivesUp old old before before
-gives_up old before = (record { files = refl; writes = refl; reads = omega arith }, record { rows = []; are = refl })
+untouched : (old : Seen) → IsUnwritten old old
+untouched old = record { files = refl; writes = refl; reads = omega arith }
+
+pub gives_up : (words : List Text) (old : Seen) (before : List Box) → WordsGiveUp words old old before before
+gives_up words old before = (untouched old, inl refl)
+
+task_gives_up : (t : Task) (old : Seen) (before : List Box) → TaskGivesUp t old old before before
+task_gives_up (run i b n s) old before = (untouched old, record { rows = []; are = refl })
+task_gives_up (build p b i c) old before = (untouched old, refl)
+task_gives_up (check i c b) old before = (untouched old, refl)
+task_gives_up (say p i) old before = (untouched old, refl)
+task_gives_up (plan p b) old before = (untouched old, refl)
+task_gives_up (gen n m b) old before = (untouched old, refl)
 
 -- a refusal of words without a reading
 pub usage_begins : (words : List Text) (old : Seen) (before : List Box) → asked words ≡ None → (r : Result Begun Memory) → IsRefusal usage r
     → MatchResult r
     (λ b. MatchBegun b (λ ending. ComesTo (asked words) old old before before (answer_of ending.status) (string_bytes ending.line))
     (λ session. Opens words old old before before session) (λ saying. Speaks words old old before before saying))
-    (λ m. GivesUp old old before before)
+    (λ m. WordsGiveUp words old old before before)
 usage_begins words old before e (Ok (Ends ending)) h = usage_comes words old before (answer_of ending.status) (string_bytes ending.line) e h.0 h.1
 usage_begins words old before e (Ok (Runs session)) h = absurd h
 usage_begins words old before e (Ok (Says saying)) h = absurd h
-usage_begins words old before e (Err m) h = gives_up old before
+usage_begins words old before e (Err m) h = gives_up words old before
 
 -- a refusal of a job that isn't built
 at_once : (t : Task) (budget : Option ℕ) (steps : ℕ) (old : Seen) (before : List Box) (a : Answer) (line : Text) → is_built t ≡ false
@@ -98,7 +109,7 @@ unbuilt_begins t budget steps old before e (Ok (Ends ending)) h =
     (record { answer = h.0; files = refl; writes = refl; reads = refl; tells = h.1 ∙ ap (λ (x : Answer). line_of [] x) (sym h.0) })
 unbuilt_begins t budget steps old before e (Ok (Runs session)) h = absurd h
 unbuilt_begins t budget steps old before e (Ok (Says saying)) h = absurd h
-unbuilt_begins t budget steps old before e (Err m) h = gives_up old before
+unbuilt_begins t budget steps old before e (Err m) h = task_gives_up t old before
 
 -- a build
 module _ (job : Build) (steps : ℕ) (old new : Seen) (before : List Box) where
@@ -112,7 +123,7 @@ module _ (job : Build) (steps : ℕ) (old new : Seen) (before : List Box) where
   build_task (Ok (Ends ending)) h = (h, refl)
   build_task (Ok (Runs session)) h = absurd h
   build_task (Ok (Says saying)) h = absurd h
-  build_task (Err m) h = (h, record { rows = []; are = refl })
+  build_task (Err m) h = (h, refl)
 
   pub build_comes : (t : Task) → t ≡ build job.program job.board job.image job.certificate → (r : Result Begun Memory) → BuildBegins r → TaskBegins t job.budget steps old new before before r
   build_comes t is r h = subst (λ (x : Task). TaskBegins x job.budget steps old new before before r) (sym is) (build_task r h)

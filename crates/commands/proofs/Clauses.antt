@@ -83,7 +83,7 @@ module _ (words : List Text) (old new : Seen) (before now : List Box) (came : An
   by_asked None e h = refused usage (unread e) h.0
   by_asked (Some r) e h = by_task r.task r.budget r.steps e h
 
-  by_comes : (IsGivenUp old new before now came line → P) → Comes words old new before now came line → P
+  by_comes : (IsGivenUp words old new before now came line → P) → Comes words old new before now came line → P
   by_comes given h = ⊎_elim (by_asked (asked words) refl) given h
 
 -- ---- Causes
@@ -346,7 +346,7 @@ refused_leaves : (words : List Text) (old new : Seen) (r a : Answer) (line : Tex
 refused_leaves words old new r a line e h =
     subst (λ x. LeavesTold words x old.files new.files) (sym h.answer) (refused_told words r e old.files new.files h.files)
 
-given_leaves : (words : List Text) (old new : Seen) (before now : List Box) (a : Answer) (line : Text) → IsGivenUp old new before now a line → LeavesTold words a old.files new.files
+given_leaves : (words : List Text) (old new : Seen) (before now : List Box) (a : Answer) (line : Text) → IsGivenUp words old new before now a line → LeavesTold words a old.files new.files
 given_leaves words old new before now a line h =
     subst (λ x. LeavesTold words x old.files new.files) (sym h.answer) (same_told words no_memory (λ x y k. k) old.files new.files h.kept.files)
 

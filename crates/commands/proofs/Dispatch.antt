@@ -1,10 +1,10 @@
 -- What a job comes to is what the words come to.
-use Rattle.std.proofs.Common.{◌≡◌, ◌∙◌, ℕ, List, [], Option, Some, None, Result, Ok, Err, MatchResult, refl, sym, subst}
+use Rattle.std.proofs.Common.{◌≡◌, ◌∙◌, ℕ, List, [], Option, Some, None, Result, Ok, Err, MatchResult, refl, sym, subst, inl, inr}
 use Rattle.std.specs.Prelude.{string_bytes}
 use Rattle.base_io.specs.declared.memory.Memory.{Memory}
 use Rattle.job_parts.specs.Asked.{Request, Task, asked, build, check, run, say, plan, gen}
 use Rattle.commands.specs.Answers.{Answer, answer_of, done, usage, read_fault, write_fault, no_memory, board_refused, too_large, not_built, needs_checkpoint, image_refused, program_refused, text_refused, stopped}
-use Rattle.commands.specs.Begun.{GivesUp, MatchBegun, Opens, Speaks, TaskRuns, TaskSays}
+use Rattle.commands.specs.Begun.{GivesUp, MatchBegun, Opens, Speaks, TaskGivesUp, TaskRuns, TaskSays, WordsGiveUp}
 use Rattle.commands.specs.Call.{ComesTo, TaskEnds}
 use Rattle.commands.specs.Job.{Seen}
 use Rattle.commands.specs.RunJob.{IsPartlyLoaded, LeavesBoxes, RunRefuses}
@@ -35,6 +35,17 @@ speaks_task words (run i b n s) budget steps old new before now saying e h = abs
 speaks_task words (plan p b) budget steps old new before now saying e h = absurd h
 speaks_task words (gen n m b) budget steps old new before now saying e h = absurd h
 
+gives_task : (words : List Text) (t : Task) (budget : Option ℕ) (steps : ℕ) (old new : Seen) (before now : List Box)
+    → asked words ≡ Some (record { task = t; budget = budget; steps = steps }) → TaskGivesUp t old new before now → WordsGiveUp words old new before now
+gives_task words (run i b n s) budget steps old new before now e h =
+    let job : Run = record { image = i; board = b; input = n; supplies = s; budget = budget; steps = steps } in
+    (h.0, inr ((job, record { asks = e }), h.1))
+gives_task words (build p b i c) budget steps old new before now e h = (h.0, inl h.1)
+gives_task words (check i c b) budget steps old new before now e h = (h.0, inl h.1)
+gives_task words (say p i) budget steps old new before now e h = (h.0, inl h.1)
+gives_task words (plan p b) budget steps old new before now e h = (h.0, inl h.1)
+gives_task words (gen n m b) budget steps old new before now e h = (h.0, inl h.1)
+
 module _ (words : List Text) (r : Request) (old new : Seen) (before now : List Box) (e : asked words ≡ Some r) where
   as_begun : (b : Begun)
       → MatchBegun b (λ ending. TaskEnds r.task r.budget r.steps old new before now (answer_of ending.status) (string_bytes ending.line)) (λ session. TaskRuns r.task r.budget r.steps old new before now session) (λ saying. TaskSays r.task r.steps old new before now saying)
@@ -46,12 +57,12 @@ module _ (words : List Text) (r : Request) (old new : Seen) (before now : List B
   pub words_come : (res : Result Begun Memory)
       → MatchResult res
       (λ b. MatchBegun b (λ ending. TaskEnds r.task r.budget r.steps old new before now (answer_of ending.status) (string_bytes ending.line)) (λ session. TaskRuns r.task r.budget r.steps old new before now session) (λ saying. TaskSays r.task r.steps old new before now saying))
-      (λ m. GivesUp old new before now)
+      (λ m. TaskGivesUp r.task old new before now)
       → MatchResult res
       (λ b. MatchBegun b (λ ending. ComesTo (asked words) old new before now (answer_of ending.status) (string_bytes ending.line)) (λ session. Opens words old new before now session) (λ saying. Speaks words old new before now saying))
-      (λ m. GivesUp old new before now)
+      (λ m. WordsGiveUp words old new before now)
   words_come (Ok b) h = as_begun b h
-  words_come (Err m) h = h
+  words_come (Err m) h = gives_task words r.task r.budget r.steps old new before now e h
 
 same : {before now : List Box} → now ≡ before → IsPartlyLoaded before now
 same e = record { rows = []; are = e }

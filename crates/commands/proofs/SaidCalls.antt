@@ -5,7 +5,7 @@ use Rattle.base_io.specs.Files.{Files}
 use Rattle.base_io.specs.declared.memory.Memory.{Memory}
 use Rattle.job_parts.specs.Asked.{Task, say}
 use Rattle.commands.specs.Answers.{Answer, answer_of}
-use Rattle.commands.specs.Begun.{GivesUp, MatchBegun, MaySay, Speaks, TaskRuns, TaskSays}
+use Rattle.commands.specs.Begun.{MatchBegun, MaySay, Speaks, TaskGivesUp, TaskRuns, TaskSays}
 use Rattle.commands.specs.Call.{Called, Sunk, TaskEnds}
 use Rattle.commands.specs.Job.{IsUnwritten, Seen}
 use Rattle.commands.specs.Running.{Box}
@@ -30,13 +30,13 @@ module _ (job : Say) (budget : Option ℕ) (old new : Seen) (before : List Box) 
       MatchResult r
       (λ b. MatchBegun b (λ ending. TaskEnds t budget job.steps old new before before (answer_of ending.status) (string_bytes ending.line))
       (λ session. TaskRuns t budget job.steps old new before before session) (λ saying. TaskSays t job.steps old new before before saying))
-      (λ m. GivesUp old new before before)
+      (λ m. TaskGivesUp t old new before before)
 
   begins : (r : Result Begun Memory) → SayBegins r → TaskBegins (say job.program job.input) r
   begins (Ok (Ends ending)) h = (h, refl)
   begins (Ok (Runs session)) h = absurd h
   begins (Ok (Says saying)) h = (h, refl)
-  begins (Err m) h = (h, record { rows = []; are = refl })
+  begins (Err m) h = (h, refl)
 
   -- the boxes are as they were
   pub say_comes : (t : Task) → t ≡ say job.program job.input → (r : Result Begun Memory) → SayBegins r → TaskBegins t r

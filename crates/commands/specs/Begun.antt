@@ -5,6 +5,7 @@ use Rattle.msp430_machine.specs.First.{HoldsBlocks, IsFirst}
 use Rattle.msp430_machine.specs.Loading.{IsLoaded}
 use Rattle.msp430_machine.specs.Views.{state_of}
 use Rattle.power_core.specs.Cores.{no_counts}
+use Rattle.commands.specs.Call.{MayBeLoaded}
 use Rattle.commands.specs.Job.{IsUnwritten, Seen}
 use Rattle.commands.specs.Opening.{joined}
 use Rattle.commands.specs.RunJob.{IsOpened, IsPartlyLoaded}
@@ -63,9 +64,18 @@ TaskRuns task budget steps old new before now session = ⊥
 abbrev pub Opens : List Text → Seen → Seen → List Box → List Box → Session → Type 0
 Opens words old new before now session = (job : Run) × AskRun words job × MayRun job old new before now session
 
--- there was no memory
+-- there was no memory for a run
 abbrev pub GivesUp : Seen → Seen → List Box → List Box → Type 0
 GivesUp old new before now = IsUnwritten old new × IsPartlyLoaded before now
+
+-- the same for a job: no other than a run loads boxes
+abbrev pub TaskGivesUp : Task → Seen → Seen → List Box → List Box → Type 0
+TaskGivesUp (run image board input supplies) old new before now = GivesUp old new before now
+TaskGivesUp task old new before now = IsUnwritten old new × (now ≡ before)
+
+-- the same for words
+abbrev pub WordsGiveUp : List Text → Seen → Seen → List Box → List Box → Type 0
+WordsGiveUp words old new before now = IsUnwritten old new × MayBeLoaded words before now
 
 -- A say that may begin: its files are read and fine.
 pub record MaySay (job : Say) (old new : Seen) (saying : Saying) : Type 0 where

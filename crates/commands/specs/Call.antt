@@ -34,15 +34,19 @@ abbrev pub ComesTo : Option Request → Seen → Seen → List Box → List Box 
 ComesTo None old new before now a line = IsRefusedAtOnce usage old new a line × (now ≡ before)
 ComesTo (Some r) old new before now a line = TaskEnds r.task r.budget r.steps old new before now a line
 
+-- the boxes are as they were, but that where the words ask for a run some may have been loaded
+abbrev pub MayBeLoaded : List Text → List Box → List Box → Type 0
+MayBeLoaded words before now = (now ≡ before) ⊎ (((job : Run) × AskRun words job) × IsPartlyLoaded before now)
+
 -- there was no memory, before anything was written
-pub record IsGivenUp (old new : Seen) (before now : List Box) (a : Answer) (line : Text) : Type 0 where
+pub record IsGivenUp (words : List Text) (old new : Seen) (before now : List Box) (a : Answer) (line : Text) : Type 0 where
   pub answer : a ≡ no_memory
   pub kept : IsUnwritten old new
-  pub boxes : IsPartlyLoaded before now
+  pub boxes : MayBeLoaded words before now
   pub tells : line ≡ line_of [] no_memory
 
 abbrev pub Comes : List Text → Seen → Seen → List Box → List Box → Answer → Text → Type 0
-Comes words old new before now a line = ComesTo (asked words) old new before now a line ⊎ IsGivenUp old new before now a line
+Comes words old new before now a line = ComesTo (asked words) old new before now a line ⊎ IsGivenUp words old new before now a line
 
 -- ---- The output: what it tells, and its count of faults
 

@@ -4,7 +4,7 @@ ghost use Rattle.base_io.specs.Counts.{Rose};
 ghost use Rattle.job_parts.specs.Asked.{IsInRange, asked, job_task, request};
 ghost use Rattle.supply_trace.specs.Boxes.{all_rows};
 ghost use Rattle.commands.specs.Answers.{answer_of, done, not_built, write_fault};
-ghost use Rattle.commands.specs.Begun.{FitBoxes, FitsBoxes, GivesUp, MatchBegun, MayRun, MaySay, Opens, Speaks, TaskRuns, TaskSays};
+ghost use Rattle.commands.specs.Begun.{FitBoxes, FitsBoxes, GivesUp, MatchBegun, MayRun, MaySay, Opens, Speaks, TaskGivesUp, TaskRuns, TaskSays, WordsGiveUp};
 ghost use Rattle.commands.specs.Call.{Called, ComesTo, Puts, TaskEnds};
 ghost use Rattle.commands.specs.Causes.{HasCause, output};
 ghost use Rattle.commands.specs.Faults.{IsComplete, IsReadFaultOrFree, IsWriteFault, NoBoxRose, ReadFaultIs, SupplyFaultIs, TooLargeIs, WordsAre, WriteFaultIs};
@@ -124,7 +124,7 @@ fn job_begun<S: Store>(
         (record { files = S.files store.old; reads = S.read_faults store.old; writes = S.write_faults store.old; bad = S.bad_name store.old })
         (record { files = S.files store.new; reads = S.read_faults store.new; writes = S.write_faults store.new; bad = S.bad_name store.new })
         (boxes_seen (λ b. (⟦<dyn Supply as Supply>⟧ b.vtable).rows_left b.value) (λ b. (⟦<dyn Supply as Supply>⟧ b.vtable).supply_faults b.value) supplies.old.items) (boxes_seen (λ b. (⟦<dyn Supply as Supply>⟧ b.vtable).rows_left b.value) (λ b. (⟦<dyn Supply as Supply>⟧ b.vtable).supply_faults b.value) supplies.new.items) saying))
-        (λ _. GivesUp
+        (λ _. TaskGivesUp (job_task asked.now.job)
         (record { files = S.files store.old; reads = S.read_faults store.old; writes = S.write_faults store.old; bad = S.bad_name store.old })
         (record { files = S.files store.new; reads = S.read_faults store.new; writes = S.write_faults store.new; bad = S.bad_name store.new })
         (boxes_seen (λ b. (⟦<dyn Supply as Supply>⟧ b.vtable).rows_left b.value) (λ b. (⟦<dyn Supply as Supply>⟧ b.vtable).supply_faults b.value) supplies.old.items) (boxes_seen (λ b. (⟦<dyn Supply as Supply>⟧ b.vtable).rows_left b.value) (λ b. (⟦<dyn Supply as Supply>⟧ b.vtable).supply_faults b.value) supplies.new.items)) }
@@ -292,7 +292,7 @@ fn words_begun<S: Store>(
         (record { files = S.files store.old; reads = S.read_faults store.old; writes = S.write_faults store.old; bad = S.bad_name store.old })
         (record { files = S.files store.new; reads = S.read_faults store.new; writes = S.write_faults store.new; bad = S.bad_name store.new })
         (boxes_seen (λ b. (⟦<dyn Supply as Supply>⟧ b.vtable).rows_left b.value) (λ b. (⟦<dyn Supply as Supply>⟧ b.vtable).supply_faults b.value) supplies.old.items) (boxes_seen (λ b. (⟦<dyn Supply as Supply>⟧ b.vtable).rows_left b.value) (λ b. (⟦<dyn Supply as Supply>⟧ b.vtable).supply_faults b.value) supplies.new.items) saying))
-        (λ _. GivesUp
+        (λ _. WordsGiveUp (map (λ word. word.now) words.now)
         (record { files = S.files store.old; reads = S.read_faults store.old; writes = S.write_faults store.old; bad = S.bad_name store.old })
         (record { files = S.files store.new; reads = S.read_faults store.new; writes = S.write_faults store.new; bad = S.bad_name store.new })
         (boxes_seen (λ b. (⟦<dyn Supply as Supply>⟧ b.vtable).rows_left b.value) (λ b. (⟦<dyn Supply as Supply>⟧ b.vtable).supply_faults b.value) supplies.old.items) (boxes_seen (λ b. (⟦<dyn Supply as Supply>⟧ b.vtable).rows_left b.value) (λ b. (⟦<dyn Supply as Supply>⟧ b.vtable).supply_faults b.value) supplies.new.items)) }

@@ -9,7 +9,7 @@ pub returns-in_default : goal.returns-in_default
 returns-in_default g c = inl (record {
   came = no_memory;
   line = line_of [] no_memory;
-  comes = inr (record { answer = refl; kept = record { files = refl; writes = refl; reads = omega arith }; boxes = record { rows = []; are = refl }; tells = refl });
+  comes = inr (record { answer = refl; kept = record { files = refl; writes = refl; reads = omega arith }; boxes = inl refl; tells = refl });
   puts = inr (record { answer = refl; told = refl; faults = refl }, refl);
 })
 

@@ -7,7 +7,7 @@ use Rattle.commands.proofs.Words.{asked_fits}
 use Rattle.commands.proofs.top.words_begun.Goals as goal
 
 pub returns-in_err-asked : goal.returns-in_err-asked
-returns-in_err-asked g c = let p = err_from_is_err_and c.from_residual.result c.from_residual.ensures.1 in rw p.1 (gives_up _ _)
+returns-in_err-asked g c = let p = err_from_is_err_and c.from_residual.result c.from_residual.ensures.1 in rw p.1 (gives_up _ _ _)
 
 pub job_begun-requires : goal.job_begun-requires
 job_begun-requires g c = record {
