@@ -1,4 +1,6 @@
 //! The worked rows of a run, over a store, boxes and an output in memory.
+ghost use Rattle.std.specs.Prelude.{◌≡◌, IfOk, string_bytes};
+
 use super::schematic;
 use crate::calling::called;
 use base_io::{MemSink, MemStore};
@@ -166,7 +168,9 @@ static ROWS: [Row; 16] = [
     },
 ];
 
-fn file(alloc: Global, name: &str, text: &str) -> Result<(String, Vec<u8>), AllocError> {
+fn file(alloc: Global, name: &str, text: &str) -> Result<(String, Vec<u8>), AllocError>
+    ensures { IfOk result (λ f. string_bytes f.0 ≡ name.now) }
+{
     Ok((
         String::from_str(alloc, name)?,
         Vec::from_slice(alloc, text.as_bytes())?,

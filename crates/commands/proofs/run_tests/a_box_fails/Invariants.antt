@@ -5,7 +5,7 @@ use Rattle.commands.proofs.run_tests.a_box_fails.OwnLists.{own-1}
 
 -- the boxes so far hold three rows
 abbrev pub invariant-loop-supplies : goal.invariant-loop-supplies
-invariant-loop-supplies l = length (all_rows (λ b. (own-1.entry b.vtable).1.rows_left b.value) l.supplies.items) ≤ 3
+invariant-loop-supplies g l = length (all_rows (λ b. (own-1.entry b.vtable).1.rows_left b.value) l.supplies.items) ≤ 3
 
 abbrev pub decreases-loop-supplies : goal.decreases-loop-supplies
-decreases-loop-supplies l = 6 - length l.supplies.items
+decreases-loop-supplies g l = 6 - length l.supplies.items
