@@ -18,6 +18,8 @@ struct Row<'a> {
     image: &'a str,
     input: &'a str,
     supplies: [&'a str; 2],
+    /// Which put of the output fails, counted from 1.
+    failing: u64,
     code: u8,
     status: &'a str,
     put: &'a str,
@@ -41,18 +43,26 @@ const ONE: &[&str] = &["run", "p.txt", "b.toml", "i", "s"];
 
 const TWO: &[&str] = &["run", "p.txt", "b.toml", "i", "s", "t"];
 
+/// The same image as `SEVEN`, in lower case and seven bytes to a line.
+const RESPELLED: &str = "@1800\n01 00 24 80 00 80\n@8000\n92 93 00 18 04 20 11\n\
+    42 04 18 10 42 02 18\na2 42 06 0f 82 41 04\n\
+    18 b2 40 24 80 02 18\n92 43 00 18 32 d0 10\n\
+    00 82 43 00 18 3f 40\n07 00 82 4f 02 0f 0f\n43 82 4f 04 0f\n\
+    @fffe\n00 80\nq\n";
+
 /// Each supply wakes the sleeping device once.
 const NAPS: Row = Row {
     words: TWO,
     image: NAP,
     input: "",
     supplies: ["2000 lose 0000\n", "2000 lose 0000"],
+    failing: 0,
     code: 15,
     status: "SupplyEnded",
     put: "supply ended\ncharges 2 instructions 2 spent 10\n",
 };
 
-static ROWS: [Row; 16] = [
+static ROWS: [Row; 22] = [
     NAPS,
     Row {
         words: ONE,
@@ -75,6 +85,34 @@ static ROWS: [Row; 16] = [
         put: "out 7\nend 0\ncharges 1 instructions 9 spent 55\n",
         ..NAPS
     },
+    Row {
+        words: ONE,
+        image: RESPELLED,
+        supplies: ["2000 lose 0000\n", ""],
+        code: 0,
+        status: "Done",
+        put: "out 7\nend 0\ncharges 1 instructions 9 spent 55\n",
+        ..NAPS
+    },
+    // The output fails.
+    Row {
+        words: ONE,
+        image: SEVEN,
+        failing: 1,
+        code: 4,
+        status: "WriteFault { name: \"-\" }",
+        put: "",
+        ..NAPS
+    },
+    Row {
+        words: ONE,
+        image: SEVEN,
+        failing: 3,
+        code: 4,
+        status: "WriteFault { name: \"-\" }",
+        put: "out 7\nend 0\n",
+        ..NAPS
+    },
     // The first charge is short, and the power fails inside of the stretch.
     Row {
         words: ONE,
@@ -92,6 +130,14 @@ static ROWS: [Row; 16] = [
         code: 16,
         status: "StepLimit",
         put: "step limit\ncharges 1 instructions 1 spent 5\n",
+        ..NAPS
+    },
+    Row {
+        words: &["--steps", "3", "run", "p.txt", "b.toml", "i", "s"],
+        image: SEVEN,
+        code: 16,
+        status: "StepLimit",
+        put: "step limit\ncharges 1 instructions 3 spent 18\n",
         ..NAPS
     },
     Row {
@@ -125,6 +171,13 @@ static ROWS: [Row; 16] = [
         ..NAPS
     },
     Row {
+        image: "@8000\n01 02\n@8001\n03\nq\n",
+        code: 11,
+        status: "ImageRefused { fault: Overlap, at: 18 }",
+        put: "image refused: Overlap at 18\n",
+        ..NAPS
+    },
+    Row {
         image: "@FFFF 11 22 q",
         code: 11,
         status: "ImageRefused { fault: PastEnd, at: 9 }",
@@ -150,6 +203,14 @@ static ROWS: [Row; 16] = [
         code: 13,
         status: "TextRefused { name: \"i\", at: 2 }",
         put: "text refused: i at 2\n",
+        ..NAPS
+    },
+    Row {
+        words: ONE,
+        supplies: ["2000 maybe\n", ""],
+        code: 13,
+        status: "TextRefused { name: \"s\", at: 0 }",
+        put: "text refused: s at 0\n",
         ..NAPS
     },
     Row {
@@ -190,7 +251,8 @@ fn store(alloc: Global, row: &Row) -> Result<MemStore, Fail> {
 
 fn try_row(rt: &impl Abort, alloc: Global, row: &Row) -> Result<(), Fail> {
     let mut store = store(alloc, row)?;
-    let mut sink = MemSink::new(alloc, 1000, Vec::new(alloc))?;
+    let failing = vec![in alloc; row.failing]?;
+    let mut sink = MemSink::new(alloc, 1000, failing)?;
     let status = called(alloc, row.words, &mut store, &mut sink)?;
     assert_eq!(rt; sink.bytes(), row.put.as_bytes());
     assert_eq!(rt; status.code(), row.code, "code of {}", row.put);

@@ -47,7 +47,7 @@ fn text_of(alloc: Global, asked: &Asked<'_>) -> Result<String, std::alloc::Alloc
 
 #[test]
 fn words_are_read(rt: HostRuntime) -> Result<(), Fail> {
-    let rows: [(&[&str], &str); 26] = [
+    let rows: [(&[&str], &str); 33] = [
         (&["plan", "p.c", "b.toml"], "plan p.c b.toml 0 1000000"),
         (
             &["--budget", "7", "plan", "p.c", "b.toml"],
@@ -84,6 +84,13 @@ fn words_are_read(rt: HostRuntime) -> Result<(), Fail> {
         (&["plan", "p.c", "-x"], "none"),
         (&["plan", "p.c", "-\u{e9}"], "none"),
         (&["--help"], "none"),
+        (&[], "none"),
+        (&["nap", "p.c", "b.toml"], "none"),
+        (&["build", "p", "b", "i", "c"], "build p b i c 0 1000000"),
+        (&["build", "p", "b", "i"], "none"),
+        (&["build", "p", "b", "i", "c", "d"], "none"),
+        (&["check", "i", "c", "b"], "check i c b 0 1000000"),
+        (&["check", "i", "c"], "none"),
         (&["build", "a", "b", "c", "a"], "none"),
         (&["gen", "65535", "0300", "b"], "gen 65535 300 b 0 1000000"),
         (&["run", "i", "b", "n", "s", "s"], "run i b n 2 0 1000000"),
@@ -97,6 +104,24 @@ fn words_are_read(rt: HostRuntime) -> Result<(), Fail> {
         let text = shown(rt.alloc(), words)?;
         assert_eq!(rt; text.as_str(), wanted);
     }
+    Ok(())
+}
+
+#[test]
+fn supplies_are_256_at_most(rt: HostRuntime) -> Result<(), Fail> {
+    let alloc = rt.alloc();
+    let mut words: Vec<&str> = Vec::new(alloc);
+    for word in ["run", "i", "b", "n"] {
+        words.push(word)?;
+    }
+    for _ in 0..256 {
+        words.push("s")?;
+    }
+    let most = shown(alloc, &words)?;
+    assert_eq!(rt; most.as_str(), "run i b n 256 0 1000000");
+    words.push("s")?;
+    let more = shown(alloc, &words)?;
+    assert_eq!(rt; more.as_str(), "none");
     Ok(())
 }
 
