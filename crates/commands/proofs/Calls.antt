@@ -1,7 +1,7 @@
 -- Each clause of the public call, from what the call comes to: its line was put, or a run or a say has begun.
 use Rattle.std.proofs.Common.{◌≡◌, ◌<◌, ℕ, List, Option, IfSome, inl, inr, subst}
 use Rattle.base_io.specs.Counts.{Rose}
-use Rattle.emit_layout.specs.StraightTheorem.{AreStraightHeld, AreStraightImages, StraightImagesAgree, StraightImagesEndure}
+use Rattle.emit_layout.specs.StraightTheorem.{AreStraightHeld, AreStraightImages, TypedImagesAgree, TypedImagesEndure}
 use Rattle.commands.specs.Words.{Text, Build, AskBuild}
 use Rattle.commands.specs.Answers.{Answer, done, write_fault}
 use Rattle.commands.specs.Call.{Called, Sunk}
@@ -77,7 +77,7 @@ module _ (words : List Text) (old new : Seen) (before left : List Box) (sunk now
   failed_write (inr (inl r)) = runs.failed_write words old new before left sunk now a r
   failed_write (inr (inr r)) = says.failed_write words old new before left sunk now a r
 
-  pub headline : StraightImagesAgree → StraightImagesEndure → AreStraightImages → AreStraightHeld → Called words old new before left sunk now a
+  pub headline : TypedImagesAgree → TypedImagesEndure → AreStraightImages → AreStraightHeld → Called words old new before left sunk now a
       → (job : Build) → AskBuild words job → a ≡ done → IsKeptTold words old.files new.files
   headline agree endure images held call job asks is =
       kept_told agree endure images held words job asks old.files new.files (subst (λ (x : Answer). LeavesTold words x old.files new.files) is (leaves call))

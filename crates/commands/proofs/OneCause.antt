@@ -6,7 +6,7 @@ use Rattle.board_table.proofs.Exact.{board_or_fault, one_fault}
 use Rattle.board_table.specs.declared.board.Board.{Board}
 use Rattle.emit_layout.specs.Straight.{straight_need}
 use Rattle.base_io.specs.declared.place.Place.{Place}
-use Rattle.c_tree.specs.declared.tree.Program.{Program}
+use Rattle.c_tree.specs.declared.tree.Program.{Program as TypedProgram}
 use Rattle.program_texts.specs.Front.{HasFault, IsTextOf}
 use Rattle.program_texts.specs.declared.fault.ProgramFault.{ProgramFault}
 use Rattle.program_texts.specs.declared.fault.ProgramFault.TheVariants.{Refused, Memory}
@@ -49,10 +49,10 @@ module _ (text : Text) where
   faults_same f g m n h k = ap refusal_of ((one_reading text).fault (Refused f m) (Refused g n) (told f m) (told g n) h k)
 
   -- a text with a fault is that of no program
-  either : (p : Program) (f : ProgramRefusal) (at : Place) → IsTextOf text p → HasFault text (Refused f at) → ⊥
+  either : (p : TypedProgram) (f : ProgramRefusal) (at : Place) → IsTextOf text p → HasFault text (Refused f at) → ⊥
   either p f at t h = (one_reading text).either p (Refused f at) (told f at) t h
 
-  same_program : (p q : Program) → IsTextOf text p → IsTextOf text q → p ≡ q
+  same_program : (p q : TypedProgram) → IsTextOf text p → IsTextOf text q → p ≡ q
   same_program p q h k = (one_reading text).program p q h k
 
   -- a text of one stretch has one list of statements, and isn't of another form
