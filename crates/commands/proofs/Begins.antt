@@ -1,5 +1,5 @@
 -- What the parts of a call come to is what the call comes to.
-use Rattle.std.proofs.Common.{◌≡◌, ◌∙◌, ◌<◌, ◌≤◌, ◌^◌, ℕ, Bool, true, false, true≢false, List, [], Option, Some, None, Result, Ok, Err, MatchResult, length, refl, sym, ap, subst, inl, inr, arith}
+use Rattle.std.proofs.Common.{◌≡◌, ◌∙◌, ℕ, false, true≢false, List, [], Option, None, Result, Ok, Err, MatchResult, refl, sym, ap, subst, inl, inr, arith}
 use Rattle.std.specs.Prelude.{string_bytes}
 use Rattle.base_io.specs.declared.memory.Memory.{Memory}
 use Rattle.job_parts.specs.Asked.{Request, Task, asked, build, check, run, say, plan, gen}

@@ -1,5 +1,5 @@
 -- Each clause of the public call, from what the call comes to: its line was put, or a run or a say has begun.
-use Rattle.std.proofs.Common.{◌≡◌, ◌<◌, ℕ, List, Option, IfSome, inl, inr, subst}
+use Rattle.std.proofs.Common.{◌≡◌, ◌<◌, List, IfSome, inl, inr, subst}
 use Rattle.base_io.specs.Counts.{Rose}
 use Rattle.emit_layout.specs.StraightTheorem.{AreStraightHeld, AreStraightImages, TypedImagesAgree, TypedImagesEndure}
 use Rattle.commands.specs.Words.{Text, Build, AskBuild}

@@ -1,12 +1,12 @@
 -- What a call comes to says each clause of the public call.
-use Rattle.std.proofs.Common.{◌≡◌, ◌<◌, ◌⊎◌, ℕ, List, Option, Some, None, ap, ap₂, sym, subst, ◌∙◌, refl, inl, inr, ⊎_elim, IfSome, arith, true≢false}
+use Rattle.std.proofs.Common.{◌≡◌, ◌<◌, ◌⊎◌, ℕ, List, Option, Some, None, ap, ap₂, sym, subst, ◌∙◌, refl, inl, inr, ⊎_elim, IfSome, true≢false}
 use Rattle.base_io.specs.Counts.{Rose}
 use Rattle.base_io.specs.Files.{Files}
 use Rattle.job_parts.specs.Asked.{Request, Task, asked, build, check, run, say, plan, gen}
 use Rattle.commands.specs.Words.{Text, Build, Run, Say, AskBuild, AskRun, AskSay, AskUnbuilt, is_built}
-use Rattle.commands.specs.Answers.{Answer, done, usage, read_fault, write_fault, no_memory, board_refused, too_large, not_built, needs_checkpoint, image_refused, program_refused, text_refused, stopped, supply_fault}
+use Rattle.commands.specs.Answers.{Answer, done, usage, read_fault, write_fault, no_memory, board_refused, too_large, not_built, needs_checkpoint, image_refused, program_refused, text_refused, stopped}
 use Rattle.commands.specs.Causes.{Causes, HasCause, output}
-use Rattle.commands.specs.Left.{LeavesTold, Leaves}
+use Rattle.commands.specs.Left.{LeavesTold}
 use Rattle.commands.specs.Faults.{IsReadFaultOrFree, IsWriteFault, ReadFaultIs, SupplyFaultIs, TooLargeIs, WordsAre, WriteFaultIs}
 use Rattle.commands.specs.Job.{Ends, IsBuiltTold, LeavesStore, Seen}
 use Rattle.commands.specs.Running.{Box, RunCauses}

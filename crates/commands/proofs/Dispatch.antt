@@ -1,5 +1,5 @@
 -- What a job comes to is what the words come to.
-use Rattle.std.proofs.Common.{◌≡◌, ◌∙◌, ℕ, List, [], Option, Some, None, Result, Ok, Err, MatchResult, refl, sym, subst, inl, inr}
+use Rattle.std.proofs.Common.{◌≡◌, ℕ, List, [], Option, Some, Result, Ok, Err, MatchResult, sym, subst, inl, inr}
 use Rattle.std.specs.Prelude.{string_bytes}
 use Rattle.base_io.specs.declared.memory.Memory.{Memory}
 use Rattle.job_parts.specs.Asked.{Request, Task, asked, build, check, run, say, plan, gen}
@@ -9,7 +9,7 @@ use Rattle.commands.specs.Call.{ComesTo, TaskEnds}
 use Rattle.commands.specs.Job.{Seen}
 use Rattle.commands.specs.RunJob.{IsPartlyLoaded, LeavesBoxes, RunRefuses}
 use Rattle.commands.specs.Running.{Box}
-use Rattle.commands.specs.Words.{Text, Run, AskRun}
+use Rattle.commands.specs.Words.{Text, Run}
 use Rattle.commands.specs.declared.saying.Saying.{Saying}
 use Rattle.commands.specs.declared.session.Session.{Session}
 use Rattle.commands.specs.declared.top.Begun.{Begun}

@@ -1,6 +1,6 @@
 -- Words and files decide one answer at most.
 use Rattle.std.proofs.Common.{◌≡◌, ◌<◌, ◌≤◌, ℕ, List, Option, Some, None, sym, subst, ap, ap₂, ◌∙◌, refl, inl, inr, arith}
-use Rattle.std.specs.Prelude.{length, ◌+◌, ◌++◌, ◌∷◌, IsSomeAnd, unwrap_or}
+use Rattle.std.specs.Prelude.{length, ◌+◌, IsSomeAnd}
 use Rattle.base_io.specs.Files.{Files}
 use Rattle.board_table.proofs.Exact.{board_or_fault, one_fault}
 use Rattle.board_table.specs.declared.board.Board.{Board}
@@ -24,7 +24,7 @@ use Rattle.commands.proofs.OneBoard.{named, one_board_with, refusal_same, refuse
 use Rattle.commands.proofs.OneRunCause.{Finding as RunFinding, one_finding as one_run_finding, run_finding}
 use Rattle.commands.proofs.OneSayCause.{Finding as SayFinding, one_finding as one_say_finding, say_finding}
 use Rattle.commands.specs.Answers.{Answer, done, usage, read_fault, write_fault, no_memory, board_refused, too_large, not_built, needs_checkpoint, image_refused, program_refused, text_refused, stopped}
-use Rattle.commands.specs.Running.{Box, IsNoBoard, RunCauses}
+use Rattle.commands.specs.Running.{Box, IsNoBoard}
 use Rattle.commands.specs.Causes.{AreRead, AreRefused, AsksFor, Causes, HasCause, IsFine, IsReached, IsRead, IsRefused, IsTooDear, most_bytes}
 use Rattle.commands.specs.Faults.{IsDecided}
 use Rattle.commands.specs.Programs.{IsOtherText, IsStraightText}

@@ -1,12 +1,12 @@
 -- A run of files and boxes comes to one answer at most, if no box fails.
-use Rattle.std.proofs.Common.{◌≡◌, ◌<◌, ◌≤◌, ◌+◌, ◌⊎◌, ℕ, List, [], ◌∷◌, Option, Some, None, length, sym, subst, ap, ap₂, ◌∙◌, refl, inl, inr, arith, map}
+use Rattle.std.proofs.Common.{◌≡◌, ◌<◌, ◌+◌, ℕ, List, [], ◌∷◌, Option, Some, None, length, sym, subst, ap, ap₂, ◌∙◌, refl, inl, inr, arith}
 use Rattle.std.specs.Prelude.{IsSomeAnd}
 use Rattle.base_io.specs.Files.{Files}
 use Rattle.board_table.proofs.Exact.{board_or_fault, one_fault}
 use Rattle.board_table.specs.declared.board.Board.{Board}
-use Rattle.job_parts.specs.Input.{SpellsInput, bad_piece, pieces_of, words_of}
+use Rattle.job_parts.specs.Input.{SpellsInput, bad_piece, pieces_of}
 use Rattle.msp430_machine.specs.declared.answer.Refill.{Refill}
-use Rattle.supply_trace.specs.Rows.{SpellsRows, bad_line, lines_of, rows_of}
+use Rattle.supply_trace.specs.Rows.{SpellsRows, bad_line, lines_of}
 use Rattle.supplied_run.specs.declared.end.End.{End}
 use Rattle.supplied_run.specs.declared.end.End.TheVariants as end
 use Rattle.supplied_run.proofs.OneRun.{IsSure, ends_alike}
@@ -19,7 +19,7 @@ use Rattle.commands.specs.Answers.{Answer, Stop, done, usage, read_fault, write_
 use Rattle.commands.specs.Budget.{IsBoardWith}
 use Rattle.commands.specs.Faults.{IsDecided}
 use Rattle.commands.specs.Reads.{AreHad, IsHad, IsReached, Wanted}
-use Rattle.commands.specs.Running.{AreRunRefused, AreSaid, Box, IsBadSupply, IsBadText, IsBoardText, IsImageText, IsNoBoard, IsNoImage, IsRunOf, IsTooLarge, RunCauses, RunTexts, RunsTo, Said, SpellEach, end_of, files_of, texts_in}
+use Rattle.commands.specs.Running.{AreSaid, Box, IsBadSupply, IsBadText, IsBoardText, IsImageText, IsNoBoard, IsNoImage, IsRunOf, RunCauses, RunTexts, RunsTo, Said, SpellEach, end_of, files_of, texts_in}
 use Rattle.commands.specs.Words.{Text, Run}
 use Rattle.commands.specs.declared.status.BoardRefusal.{BoardRefusal}
 use Rattle.commands.specs.declared.status.ImageRefusal.{ImageRefusal}

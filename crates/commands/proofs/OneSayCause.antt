@@ -1,5 +1,5 @@
 -- A say of files comes to one answer at most.
-use Rattle.std.proofs.Common.{◌≡◌, ◌<◌, ◌≤◌, ◌+◌, ◌⊎◌, ℕ, List, [], ◌∷◌, Option, Some, None, length, sym, subst, ap, ap₂, ◌∙◌, refl, inl, inr, arith}
+use Rattle.std.proofs.Common.{◌≡◌, ◌<◌, ◌+◌, ℕ, List, [], ◌∷◌, Option, Some, None, length, sym, subst, ap, ap₂, ◌∙◌, refl, inl, inr, arith}
 use Rattle.std.specs.Prelude.{IsSomeAnd}
 use Rattle.base_io.specs.Files.{Files}
 use Rattle.base_io.specs.declared.place.Place.{Place}
@@ -16,7 +16,7 @@ use Rattle.program_texts.proofs.Readings.{one_reading}
 use Rattle.commands.specs.Answers.{Answer, Stop, done, usage, read_fault, write_fault, no_memory, board_refused, too_large, not_built, needs_checkpoint, image_refused, program_refused, text_refused, stopped, trapped, supply_ended, step_limit, power_fault, machine_fault, supply_fault, came_of}
 use Rattle.commands.specs.Faults.{IsDecided}
 use Rattle.commands.specs.Reads.{AreHad, IsHad, IsReached, Wanted}
-use Rattle.commands.specs.Saying.{AreOf, AreSayRefused, Hold, IsSayRefused, SayCauses, SayStops, Stands, say_files, two_texts}
+use Rattle.commands.specs.Saying.{AreOf, AreSayRefused, IsSayRefused, SayCauses, SayStops, Stands, say_files, two_texts}
 use Rattle.commands.specs.Words.{Text, Say}
 
 some_same : {A : Type 0} (x y : A) → (let s : Option A = Some x in s ≡ Some y) → x ≡ y

@@ -1,5 +1,5 @@
 -- Each clause of the public call, from what a run comes to that has begun.
-use Rattle.std.proofs.Common.{◌≡◌, ◌<◌, ◌⊎◌, List, length, Result, Ok, Err, sym, subst, ◌∙◌, refl, inl, inr, ⊎_elim, IfSome}
+use Rattle.std.proofs.Common.{◌≡◌, ◌<◌, List, length, Result, Ok, Err, sym, subst, refl, inl, inr, IfSome}
 use Rattle.base_io.specs.Counts.{CountsFaults, Rose}
 use Rattle.base_io.specs.Files.{Files}
 use Rattle.base_io.specs.declared.sink.SinkFault.{SinkFault}
@@ -8,7 +8,7 @@ use Rattle.supplied_run.specs.Shown.{AreLeft, FrontCounts, Shows}
 use Rattle.supplied_run.specs.declared.end.End.{End}
 use Rattle.supplied_run.specs.declared.end.End.TheVariants as end
 use Rattle.commands.specs.Words.{Text}
-use Rattle.commands.specs.Answers.{Answer, Stop, done, usage, read_fault, write_fault, no_memory, board_refused, too_large, not_built, needs_checkpoint, image_refused, program_refused, text_refused, stopped, trapped, supply_ended, step_limit, power_fault, machine_fault, supply_fault, came_of}
+use Rattle.commands.specs.Answers.{Answer, Stop, done, write_fault, stopped, trapped, supply_ended, step_limit, power_fault, machine_fault, supply_fault, came_of}
 use Rattle.commands.specs.Causes.{HasCause, output}
 use Rattle.commands.specs.Left.{LeavesTold}
 use Rattle.commands.specs.Faults.{BoxRose, IsComplete, IsDecided, IsReadFaultOrFree, IsWriteFault, NoBoxRose, ReadFaultIs, SupplyFaultIs, TooLargeIs, WordsAre, WriteFaultIs, faults_of}

@@ -1,7 +1,6 @@
 -- What a say comes to is what the job of the words comes to, and the call.
-use Rattle.std.proofs.Common.{◌≡◌, ℕ, List, [], Option, Some, None, Result, Ok, Err, MatchResult, IfSome, refl, sym, subst, inl, inr}
+use Rattle.std.proofs.Common.{◌≡◌, ℕ, List, Option, Result, Ok, Err, MatchResult, refl, sym, subst, inr}
 use Rattle.std.specs.Prelude.{string_bytes}
-use Rattle.base_io.specs.Files.{Files}
 use Rattle.base_io.specs.declared.memory.Memory.{Memory}
 use Rattle.job_parts.specs.Asked.{Task, say}
 use Rattle.commands.specs.Answers.{Answer, answer_of}

@@ -1,26 +1,18 @@
 -- What a say that is refused says of each clause of the public call.
-use Rattle.std.proofs.Common.{◌≡◌, ◌<◌, ◌⊎◌, ℕ, List, Option, Some, None, ap, ap₂, sym, subst, ◌∙◌, refl, inl, inr, IfSome, arith, true≢false}
-use Rattle.base_io.specs.Counts.{Rose}
+use Rattle.std.proofs.Common.{◌≡◌, ◌<◌, ℕ, List, inr}
 use Rattle.base_io.specs.Files.{Files}
-use Rattle.c_tree.specs.Lines.{Took}
-use Rattle.c_tree.specs.Meaning.{meaning}
-use Rattle.c_tree.specs.declared.tree.Program.{Program}
-use Rattle.job_parts.specs.Asked.{Request, asked, build, run, say}
-use Rattle.plain_meaning.specs.Behaviour.{Outcome, Going, EndedWith, TrappedWith}
-use Rattle.program_texts.specs.Shown.{end_of, shown}
-use Rattle.commands.specs.Words.{Text, Build, Run, Say, AskBuild, AskRun, AskSay, AskUnbuilt, is_built}
-use Rattle.commands.specs.Answers.{Answer, Stop, done, usage, read_fault, write_fault, no_memory, board_refused, too_large, not_built, needs_checkpoint, image_refused, program_refused, text_refused, stopped, trapped, supply_ended, step_limit, power_fault, machine_fault, supply_fault, came_of}
-use Rattle.commands.specs.Causes.{HasCause, output}
+use Rattle.commands.specs.Words.{Text, Say, AskSay}
+use Rattle.commands.specs.Answers.{Answer, done, usage, read_fault, write_fault, no_memory, board_refused, too_large, not_built, needs_checkpoint, image_refused, program_refused, text_refused, stopped}
+use Rattle.commands.specs.Causes.{HasCause}
 use Rattle.commands.specs.Left.{LeavesTold}
-use Rattle.commands.specs.Faults.{IsComplete, IsDecided, IsReadFaultOrFree, IsWriteFault, NoBoxRose, ReadFaultIs, SupplyFaultIs, TooLargeIs, WordsAre, WriteFaultIs}
+use Rattle.commands.specs.Faults.{IsReadFaultOrFree, ReadFaultIs, SupplyFaultIs, TooLargeIs, WordsAre, WriteFaultIs}
 use Rattle.commands.specs.Job.{Seen}
 use Rattle.commands.specs.Running.{Box}
-use Rattle.commands.specs.Saying.{Hold, SayCauses, Stands}
-use Rattle.commands.specs.SayJob.{CountsHolding, IsSaid}
-use Rattle.commands.specs.Call.{Spoken, Sunk}
-use Rattle.commands.specs.declared.status.Unbuilt.TheVariants.{Words, Program as Form}
+use Rattle.commands.specs.Saying.{SayCauses}
+use Rattle.commands.specs.SayJob.{CountsHolding}
+use Rattle.commands.specs.declared.status.Unbuilt.TheVariants.{Words}
 use Rattle.commands.proofs.Asks.{say_asks_once}
-use Rattle.commands.proofs.Told.{fill, grew_not, map_told, same_told}
+use Rattle.commands.proofs.Told.{grew_not, same_told}
 
 -- what a say came to has its cause
 module _ (words : List Text) (files : Files) (boxes : List Box) where

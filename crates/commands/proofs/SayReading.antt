@@ -1,6 +1,5 @@
 -- What is read of both files of a say comes to one answer.
-use Rattle.std.proofs.Common.{◌≡◌, ◌≤◌, ◌∙◌, ◌⊎◌, ℕ, List, [], ◌∷◌, Option, Some, None, Result, Ok, Err, sym, subst, inl, inr, refl, IfSome, MatchResult}
-use Rattle.base_io.specs.Counts.{Rose}
+use Rattle.std.proofs.Common.{◌≡◌, ◌∙◌, ℕ, [], ◌∷◌, Option, Some, None, Result, Ok, Err, sym, subst, inl, inr, refl, IfSome, MatchResult}
 use Rattle.base_io.specs.Files.{Files}
 use Rattle.commands.specs.Answers.{Answer, answer_of, done, usage, read_fault, write_fault, no_memory, board_refused, too_large, not_built, needs_checkpoint, image_refused, program_refused, text_refused, stopped}
 use Rattle.c_tree.specs.declared.tree.Program.{Program}
@@ -8,11 +7,11 @@ use Rattle.job_parts.specs.Input.{bad_piece, pieces_of}
 use Rattle.program_texts.specs.Front.{IsTextOf}
 use Rattle.commands.specs.Opening.{AreNotHad, CountsUnhad, IsTextRefused}
 use Rattle.commands.specs.Parts.{CountsUnread, IsUnread}
-use Rattle.commands.specs.Reads.{AreHad, IsHad, IsReached, Wanted}
+use Rattle.commands.specs.Reads.{AreHad, IsHad}
 use Rattle.commands.specs.SayJob.{CountsHolding}
 use Rattle.commands.specs.Programs.{IsProgramText}
 use Rattle.commands.specs.SayParts.{Held, IsHeldOf}
-use Rattle.commands.specs.Saying.{Hold, IsSayRefused, SayCauses, say_files, say_wanted, two_texts}
+use Rattle.commands.specs.Saying.{IsSayRefused, SayCauses, say_files, say_wanted, two_texts}
 use Rattle.commands.specs.Words.{Text, Say}
 use Rattle.commands.specs.declared.saying.Saying.{Saying}
 use Rattle.commands.specs.declared.status.Status.{Status}

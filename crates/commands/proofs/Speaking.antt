@@ -1,5 +1,5 @@
 -- What is put of a say.
-use Rattle.std.proofs.Common.{◌≡◌, ◌∙◌, ◌+◌, ◌≤◌, ◌++◌, ◌⊎◌, ℕ, List, [], Option, Some, None, refl, sym, ap, subst, append_assoc, append-nil, length, take, arith, length-append, inl, inr, ⊎_elim}
+use Rattle.std.proofs.Common.{◌≡◌, ◌∙◌, ◌+◌, ◌≤◌, ◌++◌, ℕ, List, [], Option, Some, None, refl, sym, ap, subst, append_assoc, length, take, arith, length-append, inl, inr, ⊎_elim}
 use Rattle.base_io.specs.Counts.{Rose}
 use Rattle.c_tree.specs.Lines.{Took}
 use Rattle.c_tree.specs.Meaning.{meaning}
@@ -12,7 +12,7 @@ use Rattle.commands.specs.Words.{Text}
 use Rattle.commands.specs.Answers.{Answer, came_of, line_of, no_memory, write_fault}
 use Rattle.commands.specs.Call.{AllTold, FrontTold, Puts, Sunk}
 use Rattle.commands.specs.Causes.{output}
-use Rattle.commands.specs.SayJob.{IsFrontSaid, IsSaid, cut_short}
+use Rattle.commands.specs.SayJob.{IsSaid}
 
 module _ (p : Program) (words : List ℕ) (n : ℕ) (sunk now : Option Text) (before after : ℕ) where
   -- the whole was put

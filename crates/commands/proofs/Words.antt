@@ -1,12 +1,12 @@
 -- Words that ask for a run name a few supplies.
-use Rattle.std.proofs.Common.{◌≡◌, ◌∙◌, ◌+◌, ◌<◌, ◌≤◌, ◌++◌, ◌&&◌, ℕ, Bool, true, false, List, [], ◌∷◌, Option, Some, None, length, length-append, map, refl, sym, ap, subst, arith}
+use Rattle.std.proofs.Common.{◌≡◌, ◌∙◌, ◌+◌, ◌≤◌, ◌++◌, ◌&&◌, ℕ, Bool, true, false, List, [], ◌∷◌, Option, Some, None, length, length-append, refl, sym, ap, subst, arith}
 use Rattle.std.specs.Prelude.{nat_le, codes, if◌then◌else◌, is_some, option_map, option_and_then, unwrap_or}
 use Rattle.std.specs.List.{list_any}
 use Rattle.std.specs.Str.{bytes_eq}
-use Rattle.std.proofs.lemmas.Bool.{cases_Bool, leb-true}
+use Rattle.std.proofs.lemmas.Bool.{leb-true}
 use Rattle.job_parts.specs.Words.{Word, Given, Setting, budget, steps, Form, ends, option, strange, plain, form_of, given_from, nothing, number, slot, turn, with_number, with_option, with_words}
 use Rattle.job_parts.specs.Asked.{Request, Task, asked, build, check, run, say, plan, gen, build_of, check_of, run_of, say_of, plan_of, gen_of, differ, files_of, task_of, request_of}
-use Rattle.commands.specs.Begun.{FitBoxes, FitsBoxes}
+use Rattle.commands.specs.Begun.{FitsBoxes}
 use Rattle.commands.specs.Words.{Text}
 
 none_some : {A : Type 0} (x : A) → (let n : Option A = None in n ≡ Some x) → ⊥

@@ -1,5 +1,5 @@
 -- Why a call answers what it answers, by its words, by the files of a store that tells them, and by what the boxes hold.
-use Rattle.std.specs.Prelude.{◌≡◌, ◌≢◌, ◌<◌, ◌≤◌, ◌⊎◌, ◌+◌, ℕ, List, [], length, Option, Some, None, IsSomeAnd, codes, ⊤}
+use Rattle.std.specs.Prelude.{◌≡◌, ◌≢◌, ◌<◌, ◌≤◌, ◌⊎◌, ◌+◌, ℕ, List, length, Option, None, IsSomeAnd, codes, ⊤}
 use Rattle.base_io.specs.Files.{Files}
 use Rattle.board_table.specs.declared.board.Board.{Board}
 use Rattle.emit_layout.specs.Straight.{straight_need}

@@ -4,7 +4,7 @@ use Rattle.base_io.specs.Counts.{Rose}
 use Rattle.base_io.specs.Files.{Files}
 use Rattle.msp430_machine.specs.declared.answer.Refill.{Refill}
 use Rattle.ti_txt.specs.Bytes.{blocks_of}
-use Rattle.commands.specs.Answers.{Answer, answer_of, read_fault, no_memory, too_large, image_refused, text_refused}
+use Rattle.commands.specs.Answers.{Answer, read_fault, no_memory, too_large, image_refused, text_refused}
 use Rattle.commands.specs.Reads.{IsAmong, IsReached, Wanted}
 use Rattle.commands.specs.Running.{IsNoImage, RunTexts, Said, wanted}
 use Rattle.commands.specs.Words.{Text}

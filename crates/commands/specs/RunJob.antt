@@ -1,5 +1,5 @@
 -- How a run ends, by the store, the boxes and the output before and after.
-use Rattle.std.specs.Prelude.{◌≡◌, ◌⊎◌, ◌++◌, ◌+◌, ℕ, List, [], length, take, drop, Option, IfSome, Result, Ok, Err, ⊤}
+use Rattle.std.specs.Prelude.{◌≡◌, ◌++◌, ◌+◌, ℕ, List, [], length, drop, Option, IfSome, Result, Ok, Err, ⊤}
 use Rattle.base_io.specs.Counts.{CountsFaults, Rose}
 use Rattle.base_io.specs.declared.sink.SinkFault.{SinkFault}
 use Rattle.board_table.specs.declared.board.Board.{Board}

@@ -17,7 +17,6 @@ use Rattle.supplied_run.specs.declared.end.End.{End}
 use Rattle.supplied_run.specs.declared.end.End.TheVariants as end
 use Rattle.ti_txt.specs.Grammar.{Faulty, Holds}
 use Rattle.ti_txt.specs.Image.{Block}
-use Rattle.ti_txt.specs.declared.fault.TxtFault.{TxtFault}
 use Rattle.ti_txt.specs.declared.fault.TxtFault.TheVariants as txt
 use Rattle.commands.specs.Budget.{IsBoardWith}
 use Rattle.commands.specs.Reads.{AreHad, IsReached, Wanted}

@@ -1,4 +1,4 @@
-use Rattle.std.proofs.Common.{◌≡◌, ◌≤◌, ℕ, refl, sym, subst, inl, inr, [], arith}
+use Rattle.std.proofs.Common.{◌≤◌, ℕ, refl, sym, subst, inl, inr, [], arith}
 use Rattle.commands.specs.Answers.{no_memory, line_of}
 use Rattle.commands.proofs.Begins.{line_call, memory_call, run_call}
 use Rattle.commands.proofs.Opening.{rows_fit}
