@@ -312,7 +312,7 @@ static ROWS: [Row; 42] = [
     },
     // A fault of the program is told before the board's.
     Row {
-        words: &["build", "empty", "empty", "p.txt", "p.cert"],
+        words: &["build", "empty", "p.c", "p.txt", "p.cert"],
         status: "ProgramRefused { fault: NoMain, place: Place { line: 1, column: 1 } }",
         put: "program refused: NoMain at 1:1\n",
         ..UNREADABLE_PROGRAM
