@@ -172,6 +172,9 @@ begun_down : (n : ℕ) (s s1 : State) (es : List Event) → begin_at n s ≡ Don
 begun_down zero s s1 es h = cc
 begun_down (suc n) s s1 es h = let e : record s { left = n } ≡ s1 = cc in omega (arith, ap (λ (q : State). q.left) e)
 
+pub begun_left : (s s1 : State) (a b : Seen) → Follows (begin s) s a (Ok tt) s1 b → s1.left + 1 ≡ s.left
+begun_left s s1 a b k = begun_down s.left s s1 k.es k.is
+
 none_left : (n : ℕ) (s : State) → n ≤ 0 → begin_at n s ≡ Stopped []
 none_left zero s h = refl
 none_left (suc n) s h = absurd (omega (arith, h))

@@ -2,4 +2,5 @@ mod Shown
 mod Steady
 mod SteadyNodes
 mod Chain
+mod Operands
 mod Store

@@ -5,5 +5,6 @@ pub mod Meaning
 pub mod Laws
 pub mod Lines
 pub mod Stored
+pub mod Chains
 pub mod Follows
 pub mod Said

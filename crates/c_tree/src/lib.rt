@@ -1,6 +1,7 @@
 //! The typed tree of a program, what the program means, and the call that says it.
 #![tactic(auto)]
 
+mod chains;
 mod halt;
 mod laws;
 mod leaving;

@@ -26,6 +26,7 @@ fn put_line<K: Sink>(word: u16, sink: &mut K) -> Result<(), SinkFault>
 }
 
 /// Puts a word.
+#[inline(never)]
 pub fn put<K: Sink>(word: u16, sink: &mut K) -> Result<(), Halt>
     ensures { (s : spec.State) → Follows (spec.put word s) s (seen (K.taken sink.old) (K.faults sink.old)) result s (seen (K.taken sink.new) (K.faults sink.new)) }
 {

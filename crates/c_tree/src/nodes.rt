@@ -1,5 +1,5 @@
 //! What each node of a program does.
-ghost use Rattle.std.specs.Prelude.{◌≡◌, ℕ, ◌<◌, ◌≤◌, ◌+◌, List, [], ◌∷◌, Option, None, slice_get};
+ghost use Rattle.std.specs.Prelude.{◌≡◌, ℕ, ◌<◌, ◌≤◌, ◌+◌, List, [], ◌∷◌, map, reverse, Option, None, slice_get};
 ghost use Rattle.std.specs.Option.{option_copied};
 ghost use Rattle.std.specs.Result.{result_map_both};
 ghost use Rattle.c_tree.specs.Nodes as nodes;
@@ -7,8 +7,10 @@ ghost use Rattle.c_tree.specs.declared.tree.ExprKind.{out-ExprKind};
 ghost use Rattle.c_tree.specs.declared.tree.StmtKind.{out-StmtKind};
 ghost use Rattle.c_tree.specs.declared.tree.BlockItem.{out-BlockItem};
 ghost use Rattle.c_tree.specs.Lines.{seen};
-ghost use Rattle.c_tree.specs.Follows.{Does};
+ghost use Rattle.c_tree.specs.Chains.{rest_of, rests_of};
+ghost use Rattle.c_tree.specs.Follows.{Does, Follows};
 
+use crate::chains::{first_of, is_deep, keep, last_kept};
 use crate::halt::Halt;
 use crate::leaving::Leaving;
 use crate::line::put;
@@ -62,7 +64,7 @@ fn node<K: Sink>(p: &Program, e: &Expr, run: &mut Run, sink: &mut K) -> Result<u
         ExprKind::Binary { op, a, b } => {
             let a = a.get();
             let b = b.get();
-            let x = expr(p, a, run, sink)?;
+            let x = first(p, a, run, sink)?;
             second(p, *op, a, b, x, run, sink)
         }
         ExprKind::Cond { test, yes, no } => {
@@ -85,6 +87,70 @@ fn node<K: Sink>(p: &Program, e: &Expr, run: &mut Run, sink: &mut K) -> Result<u
             put(word, sink)?;
             Ok(0)
         }
+    }
+}
+
+/// The word of a first operand, without calls within each other where many lie within each other.
+#[cycle(nodes)]
+fn first<K: Sink>(p: &Program, e: &Expr, run: &mut Run, sink: &mut K) -> Result<u16, Halt>
+    ensures meets { Does p.now (λ d. d.expr e.now) run.old (seen (K.taken sink.old) (K.faults sink.old)) result run.new (seen (K.taken sink.new) (K.faults sink.new)) }
+    ensures fewer { run.new.left ≤ run.old.left }
+{
+    if is_deep(e) {
+        chain(p, e, run, sink)
+    } else {
+        expr(p, e, run, sink)
+    }
+}
+
+/// Begins the nodes down to the innermost first operand, and keeps them until its word is there.
+#[cycle(nodes)]
+fn chain<K: Sink>(p: &Program, e: &Expr, run: &mut Run, sink: &mut K) -> Result<u16, Halt>
+    ensures meets { Does p.now (λ d. d.expr e.now) run.old (seen (K.taken sink.old) (K.faults sink.old)) result run.new (seen (K.taken sink.new) (K.faults sink.new)) }
+    ensures fewer { run.new.left ≤ run.old.left }
+{
+    let mut above = Vec::new(run.alloc());
+    let mut at = e;
+    while let Some(part) = first_of(at) {
+        begin(run)?;
+        keep(&mut above, at)?;
+        at = part;
+    }
+    let word = expr(p, at, run, sink)?;
+    rests(p, above, word, run, sink)
+}
+
+/// What comes behind a first operand, from the innermost kept outwards.
+#[cycle(nodes)]
+fn rests<K: Sink>(
+    p: &Program,
+    above: Vec<&Expr>,
+    word: u16,
+    run: &mut Run,
+    sink: &mut K,
+) -> Result<u16, Halt>
+    ensures meets { (n : ℕ) → run.old.left ≤ n → Follows (rests_of p.now n (map (λ r. r.now) (reverse above.entry.items)) word run.old) run.old (seen (K.taken sink.old) (K.faults sink.old)) result run.new (seen (K.taken sink.new) (K.faults sink.new)) }
+    ensures fewer { run.new.left ≤ run.old.left }
+{
+    let mut above = above;
+    let mut word = word;
+    while let Some(e) = last_kept(&mut above) {
+        word = rest(p, e, word, run, sink)?;
+    }
+    Ok(word)
+}
+
+/// What comes behind a first operand.
+#[cycle(nodes)]
+fn rest<K: Sink>(p: &Program, e: &Expr, word: u16, run: &mut Run, sink: &mut K) -> Result<u16, Halt>
+    ensures meets { Does p.now (λ d. rest_of d e.now.ty (out-ExprKind e.now.kind) word) run.old (seen (K.taken sink.old) (K.faults sink.old)) result run.new (seen (K.taken sink.new) (K.faults sink.new)) }
+    ensures fewer { run.new.left ≤ run.old.left }
+{
+    match &e.kind {
+        ExprKind::Convert(inner) => Ok(converted(e.ty, inner.get().ty, word)),
+        ExprKind::Unary { op, a } => Ok(unary(a.get().ty, *op, word)),
+        ExprKind::Binary { op, a, b } => second(p, *op, a.get(), b.get(), word, run, sink),
+        _ => Ok(word),
     }
 }
 

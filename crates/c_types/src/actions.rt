@@ -123,7 +123,10 @@ fn element_target(
     ensures { Makes (spec.element_target place meaning index) state.old result state.new }
 {
     match meaning {
-        None => no_target(TypeFault::Unknown { at: place }, place, state),
+        None => {
+            drop(index);
+            no_target(TypeFault::Unknown { at: place }, place, state)
+        }
         Some(
             Meaning::Variable {
                 number,
@@ -133,9 +136,13 @@ fn element_target(
             },
         ) => changed_element(alloc, place, is_const, number, ty, index, state),
         Some(Meaning::Variable { length: None, .. }) => {
+            drop(index);
             no_target(TypeFault::BadArray { at: place }, place, state)
         }
-        Some(Meaning::Function(_)) => no_target(TypeFault::BadArray { at: place }, place, state),
+        Some(Meaning::Function(_)) => {
+            drop(index);
+            no_target(TypeFault::BadArray { at: place }, place, state)
+        }
     }
 }
 

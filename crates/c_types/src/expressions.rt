@@ -346,8 +346,12 @@ fn element_value(
     ensures { Makes (spec.element_value place meaning index) state.old result state.new }
 {
     match meaning {
-        None => faulty(TypeFault::Unknown { at: place }, place, state),
+        None => {
+            drop(index);
+            faulty(TypeFault::Unknown { at: place }, place, state)
+        }
         Some(Meaning::Variable { length: None, .. }) => {
+            drop(index);
             faulty(TypeFault::BadArray { at: place }, place, state)
         }
         Some(
@@ -369,6 +373,9 @@ fn element_value(
                 state,
             )
         }
-        Some(Meaning::Function(_)) => faulty(TypeFault::WrongArgs { at: place }, place, state),
+        Some(Meaning::Function(_)) => {
+            drop(index);
+            faulty(TypeFault::WrongArgs { at: place }, place, state)
+        }
     }
 }

@@ -122,7 +122,10 @@ pub fn empty_stmt() -> Stmt
 pub fn made(place: Place, kind: StmtKind, state: &mut State) -> Result<Stmt, NoMemory>
     ensures { Makes (spec.made place kind) state.old result state.new }
 {
-    count(1, state)?;
+    let Ok(()) = count(1, state) else {
+        drop(kind);
+        return Err(NoMemory);
+    };
     Ok(Stmt { place, kind })
 }
 
@@ -159,6 +162,7 @@ fn returned(
 {
     match ty {
         None => {
+            drop(e);
             note(TypeFault::BadAssign { at: place }, state)?;
             Ok(StmtKind::Return(None))
         }

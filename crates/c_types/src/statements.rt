@@ -251,7 +251,10 @@ fn yes_parts(
 ) -> Result<StmtKind, NoMemory>
     ensures { Makes (spec.yes_by (judged part.now) (map judged rest.now) test) state.old result state.new }
 {
-    let yes = boxed_stmt(alloc, part, state)?;
+    let Ok(yes) = boxed_stmt(alloc, part, state) else {
+        drop(test);
+        return Err(NoMemory);
+    };
     else_parts(alloc, rest, test, yes, state)
 }
 
@@ -268,7 +271,11 @@ fn else_parts(
 {
     match front(parts) {
         Fronted::More(_, part, _) => {
-            let no = boxed_stmt(alloc, part, state)?;
+            let Ok(no) = boxed_stmt(alloc, part, state) else {
+                drop(test);
+                drop(yes);
+                return Err(NoMemory);
+            };
             Ok(StmtKind::If {
                 test,
                 yes,
@@ -311,7 +318,10 @@ fn while_body(
 ) -> Result<StmtKind, NoMemory>
     ensures { Makes (spec.while_body (judged part.now) test) state.old result state.new }
 {
-    let body = boxed_stmt(alloc, part, state)?;
+    let Ok(body) = boxed_stmt(alloc, part, state) else {
+        drop(test);
+        return Err(NoMemory);
+    };
     Ok(StmtKind::While { test, body })
 }
 
@@ -408,10 +418,16 @@ fn test_parts(
         Some((part, rest)) => if is_token(part) {
             step_parts(alloc, first, rest, None, state)
         } else {
-            let test = value_of(alloc, part, state)?;
+            let Ok(test) = value_of(alloc, part, state) else {
+                drop(first);
+                return Err(NoMemory);
+            };
             step_parts(alloc, first, but_first(rest), Some(test), state)
         },
-        None => Ok(StmtKind::Empty),
+        None => {
+            drop(first);
+            Ok(StmtKind::Empty)
+        }
     }
 }
 
@@ -431,10 +447,18 @@ fn step_parts(
         Some((part, rest)) => if is_token(part) {
             for_body(alloc, first, test, rest, None, state)
         } else {
-            let step = act(alloc, part, state)?;
+            let Ok(step) = act(alloc, part, state) else {
+                drop(first);
+                drop(test);
+                return Err(NoMemory);
+            };
             for_body(alloc, first, test, but_first(rest), Some(step), state)
         },
-        None => Ok(StmtKind::Empty),
+        None => {
+            drop(first);
+            drop(test);
+            Ok(StmtKind::Empty)
+        }
     }
 }
 
@@ -452,7 +476,12 @@ fn for_body(
 {
     match first_and_rest(parts) {
         Some((part, _)) => {
-            let body = boxed_stmt(alloc, part, state)?;
+            let Ok(body) = boxed_stmt(alloc, part, state) else {
+                drop(first);
+                drop(test);
+                drop(step);
+                return Err(NoMemory);
+            };
             Ok(StmtKind::For {
                 first,
                 test,
@@ -460,7 +489,12 @@ fn for_body(
                 body,
             })
         }
-        None => Ok(StmtKind::Empty),
+        None => {
+            drop(first);
+            drop(test);
+            drop(step);
+            Ok(StmtKind::Empty)
+        }
     }
 }
 
@@ -506,7 +540,10 @@ fn switched(
 ) -> Result<StmtKind, NoMemory>
     ensures { Makes (spec.switched (map judged parts.now) value) state.old result state.new }
 {
-    let groups = groups_in(alloc, value.ty, parts, state)?;
+    let Ok(groups) = groups_in(alloc, value.ty, parts, state) else {
+        drop(value);
+        return Err(NoMemory);
+    };
     Ok(StmtKind::Switch { value, groups })
 }
 

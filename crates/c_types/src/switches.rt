@@ -117,14 +117,16 @@ fn case_from(
 ) -> Result<Items<Label>, NoMemory>
     ensures { Makes (spec.case_from place (before.now ++ labels.now) e value) state.old result state.new }
 {
+    let at = e.place;
+    drop(e);
     match value {
         None => {
-            note(TypeFault::NotConst { at: e.place }, state)?;
+            note(TypeFault::NotConst { at }, state)?;
             Ok(Items::new(alloc))
         }
         Some(word) => {
             let twice = has_label_in(word, before, labels);
-            note_if(twice, TypeFault::Redeclared { at: e.place }, state)?;
+            note_if(twice, TypeFault::Redeclared { at }, state)?;
             label_made(alloc, place, Some(word), state)
         }
     }

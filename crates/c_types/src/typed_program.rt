@@ -49,7 +49,10 @@ fn answer(alloc: Global, state: State) -> Result<Program, TypeFault>
     ensures refuses { IfErr result (λ fault. fault ≢ faults.Memory → IsFaulty state fault) }
 {
     match first_of(state.faults.as_slice()) {
-        Some(fault) => Err(fault),
+        Some(fault) => {
+            drop(state);
+            Err(fault)
+        }
         None => faultless(alloc, state),
     }
 }
@@ -61,8 +64,14 @@ fn faultless(alloc: Global, state: State) -> Result<Program, TypeFault>
     ensures refuses { IfErr result (λ fault. fault ≢ faults.Memory → IsFaulty state fault) }
 {
     match recursion(alloc, state.calls.as_slice()) {
-        Err(_) => Err(TypeFault::Memory),
-        Ok(Some(fault)) => Err(fault),
+        Err(_) => {
+            drop(state);
+            Err(TypeFault::Memory)
+        }
+        Ok(Some(fault)) => {
+            drop(state);
+            Err(fault)
+        }
         Ok(None) => finish(state),
     }
 }

@@ -34,7 +34,10 @@ pub fn absent(place: Place) -> Value
 pub fn node(place: Place, ty: Ty, kind: ExprKind, state: &mut State) -> Result<Expr, NoMemory>
     ensures { Makes (spec.node place ty kind) state.old result state.new }
 {
-    count(1, state)?;
+    let Ok(()) = count(1, state) else {
+        drop(kind);
+        return Err(NoMemory);
+    };
     Ok(Expr { place, ty, kind })
 }
 
@@ -167,7 +170,10 @@ fn binary_node(
 ) -> Result<Value, NoMemory>
     ensures { Makes (spec.binary_node place op ty a b) state.old result state.new }
 {
-    let a = boxed(alloc, a)?;
+    let Ok(a) = boxed(alloc, a) else {
+        drop(b);
+        return Err(NoMemory);
+    };
     let b = boxed(alloc, b)?;
     valued(place, ty, ExprKind::Binary { op, a, b }, state)
 }
@@ -217,8 +223,15 @@ fn choice_node(
 ) -> Result<Value, NoMemory>
     ensures { Makes (spec.choice_node place ty test yes no) state.old result state.new }
 {
-    let test = boxed(alloc, test)?;
-    let yes = boxed(alloc, yes)?;
+    let Ok(test) = boxed(alloc, test) else {
+        drop(yes);
+        drop(no);
+        return Err(NoMemory);
+    };
+    let Ok(yes) = boxed(alloc, yes) else {
+        drop(no);
+        return Err(NoMemory);
+    };
     let no = boxed(alloc, no)?;
     valued(place, ty, ExprKind::Cond { test, yes, no }, state)
 }
@@ -235,7 +248,11 @@ fn no_converted(
 ) -> Result<Value, NoMemory>
     ensures { Makes (spec.no_converted place test ty no yes) state.old result state.new }
 {
-    let no = converted(alloc, ty, no, state)?;
+    let Ok(no) = converted(alloc, ty, no, state) else {
+        drop(test);
+        drop(yes);
+        return Err(NoMemory);
+    };
     choice_node(alloc, place, ty, test, yes, no, state)
 }
 
@@ -251,6 +268,10 @@ pub fn choice_made(
     ensures { Makes (spec.choice_made place test yes no) state.old result state.new }
 {
     let ty = common(yes.ty, no.ty);
-    let yes = converted(alloc, ty, yes, state)?;
+    let Ok(yes) = converted(alloc, ty, yes, state) else {
+        drop(test);
+        drop(no);
+        return Err(NoMemory);
+    };
     no_converted(alloc, place, test, ty, no, yes, state)
 }

@@ -10,6 +10,7 @@ use Rattle.c_tree.specs.declared.tree.StmtKind.{out-StmtKind}
 use Rattle.c_tree.specs.declared.tree.StmtKind.TheVariants.{outs-Block, outs-Act, outs-Return, outs-If, outs-While, outs-Do, outs-For, outs-Switch}
 use Rattle.c_tree.specs.declared.tree.BlockItem.TheVariants.{outs-Declare}
 use Rattle.c_tree.proofs.Chain.{fails, follows_ok, follows_quiet, gives_up_after, expr_begun, expr_stopped, stmt_begun, stmt_stopped, turns_stopped, turns_fail, turns_left, turns_on}
+use Rattle.c_tree.proofs.Operands.{chain_start, chain_next, chain_stopped, chain_gives_up, rests_next, rests_fail}
 use Rattle.c_tree.proofs.nodes.+nodes.Goals as goal
 
 pub expr-returns-in_err-begin-clause-meets : goal.expr-returns-in_err-begin-clause-meets
@@ -407,3 +408,53 @@ pub last_test-returns-in_err-word-clause-meets : goal.last_test-returns-in_err-w
 last_test-returns-in_err-word-clause-meets g t c = λ d le.
     let e : c.from_residual.result ≡ Err c.in_err-word.field-0.0 = search rules in
     fails _ _ _ _ _ _ _ _ e (c.in_err-word.ensures.meets d (omega arith))
+
+pub chain-loop-part-init : goal.chain-loop-part-init
+chain-loop-part-init g t c = (λ d le. (d, le, chain_start _ _ _ d _ _ (rw c.new-above.ensures.items refl)), omega arith)
+
+pub chain-returns-in_err-begin-clause-meets : goal.chain-returns-in_err-begin-clause-meets
+chain-returns-in_err-begin-clause-meets g t c = λ d le.
+    let e : c.from_residual.result ≡ Err c.in_err-begin.field-0.0 = search rules in
+    let n = c.loop-part.invariant.0 d le in
+    n.2 _ _ _ (chain_stopped _ _ _ n.0 _ _ _ _ _ _ n.1 e (c.in_err-begin.ensures.meets _))
+
+pub chain-returns-in_err-keep-clause-meets : goal.chain-returns-in_err-keep-clause-meets
+chain-returns-in_err-keep-clause-meets g t c = λ d le.
+    let e : c.from_residual-in_err-keep.result ≡ Err c.in_err-keep.field-0.0 = search rules in
+    let q : c.from_residual-in_err-keep.result ≡ Err halt.Memory = e ∙ ap Err c.in_err-keep.ensures in
+    let n = c.loop-part.invariant.0 d le in
+    n.2 _ _ _ (chain_gives_up _ _ _ n.0 _ _ _ _ _ n.1 q (c.in_ok-begin.ensures.meets _))
+
+pub chain-loop-part-preserved : goal.chain-loop-part-preserved
+chain-loop-part-preserved g t c = (
+  λ d le. chain_next _ _ _ _ _ _ _ _ _ _ _ _ c.in-Some.ensures c.in_ok-keep.ensures (c.in_ok-begin.ensures.meets _) (c.loop-part.invariant.0 d le),
+  omega (arith, c.loop-part.invariant.1, c.in_ok-begin.ensures.fewer),
+)
+
+pub chain-returns-in_err-word-clause-meets : goal.chain-returns-in_err-word-clause-meets
+chain-returns-in_err-word-clause-meets g t c = λ d le.
+    let e : c.from_residual-in_err-word.result ≡ Err c.in_err-word.field-0.0 = search rules in
+    let n = c.loop-part.invariant.0 d le in
+    n.2 _ _ _ (fails _ _ _ _ _ _ _ _ e (c.in_err-word.ensures.meets n.0 n.1))
+
+pub chain-returns-clause-meets : goal.chain-returns-clause-meets
+chain-returns-clause-meets g t c = λ d le.
+    let n = c.loop-part.invariant.0 d le in
+    n.2 _ _ _ (follows_ok _ _ _ _ _ _ _ _ _ _ (c.in_ok-word.ensures.meets n.0 n.1) (c.rests.ensures.meets n.0 (omega (arith, n.1, c.in_ok-word.ensures.fewer))))
+
+pub rests-returns-in_err-word-clause-meets : goal.rests-returns-in_err-word-clause-meets
+rests-returns-in_err-word-clause-meets g t c = λ d le.
+    let e : c.from_residual.result ≡ Err c.in_err-word.field-0.0 = search rules in
+    let n = c.loop-e.invariant.0 d le in
+    n.2 _ _ _ (rests_fail _ _ _ _ n.0 _ _ _ _ _ _ _ c.in-Some.ensures e (c.in_err-word.ensures.meets n.0 n.1))
+
+pub rests-loop-e-preserved : goal.rests-loop-e-preserved
+rests-loop-e-preserved g t c = (
+  λ d le. rests_next _ _ _ _ _ _ _ _ _ _ _ _ _ c.in-Some.ensures c.in_ok-word.ensures.fewer c.in_ok-word.ensures.meets (c.loop-e.invariant.0 d le),
+  omega (arith, c.loop-e.invariant.1, c.in_ok-word.ensures.fewer),
+)
+
+pub rests-returns-clause-meets : goal.rests-returns-clause-meets
+rests-returns-clause-meets g t c = λ d le.
+    let n = c.loop-e.invariant.0 d le in
+    n.2 (Ok _) _ _ (rw c.in_default.ensures (follows_quiet _ _ _ _ _ refl refl))

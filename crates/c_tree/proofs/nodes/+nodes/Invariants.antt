@@ -1,4 +1,7 @@
-use Rattle.std.proofs.Common.{◌≡◌, ℕ, ◌≤◌, ◌+◌, [], ◌*◌, length}
+use Rattle.std.proofs.Common.{◌≡◌, ℕ, ◌≤◌, ◌+◌, [], ◌*◌, length, reverse}
+use Rattle.std.specs.Prelude.{map}
+use Rattle.c_tree.specs.Runs.{go_on}
+use Rattle.c_tree.specs.Chains.{rests_of}
 use Rattle.c_tree.specs.Nodes as nodes
 use Rattle.c_tree.specs.Lines.{seen}
 use Rattle.c_tree.specs.Follows.{Leads}
@@ -10,6 +13,18 @@ decreases-expr g l = 40 * l.run.now.left + 0
 
 abbrev pub decreases-node : goal.decreases-node
 decreases-node g l = 40 * l.run.now.left + 39
+
+abbrev pub decreases-first : goal.decreases-first
+decreases-first g l = 40 * l.run.now.left + 7
+
+abbrev pub decreases-chain : goal.decreases-chain
+decreases-chain g l = 40 * l.run.now.left + 6
+
+abbrev pub decreases-rests : goal.decreases-rests
+decreases-rests g l = 40 * l.run.now.left + 5
+
+abbrev pub decreases-rest : goal.decreases-rest
+decreases-rest g l = 40 * l.run.now.left + 4
 
 abbrev pub decreases-second : goal.decreases-second
 decreases-second g l = 40 * l.run.now.left + 3
@@ -121,6 +136,18 @@ decreases-do_test g l = 40 * l.run.now.left + 2
 
 abbrev pub decreases-last_test : goal.decreases-last_test
 decreases-last_test g l = 40 * l.run.now.left + 1
+
+abbrev pub invariant-chain-loop-part : goal.invariant-chain-loop-part
+invariant-chain-loop-part g l = ((d : ℕ) → l.initial.run.left ≤ d → (n : ℕ) × (l.run.left ≤ n) × Leads ((nodes.to_depth l.p d).expr l.e l.initial.run) l.initial.run (seen (g.K.Sink.taken l.initial.sink) (g.K.Sink.faults l.initial.sink)) (go_on ((nodes.to_depth l.p n).expr l.at l.run) (rests_of l.p n (map (λ r. r.now) (reverse l.above.items)))) l.run (seen (g.K.Sink.taken l.sink) (g.K.Sink.faults l.sink))) × (l.run.left ≤ l.initial.run.left)
+
+abbrev pub decreases-chain-loop-part : goal.decreases-chain-loop-part
+decreases-chain-loop-part g l = l.run.left
+
+abbrev pub invariant-rests-loop-e : goal.invariant-rests-loop-e
+invariant-rests-loop-e g l = ((d : ℕ) → l.initial.run.left ≤ d → (n : ℕ) × (l.run.left ≤ n) × Leads (rests_of l.p d (map (λ r. r.now) (reverse l.initial.above.items)) l.initial.word l.initial.run) l.initial.run (seen (g.K.Sink.taken l.initial.sink) (g.K.Sink.faults l.initial.sink)) (rests_of l.p n (map (λ r. r.now) (reverse l.above.items)) l.word l.run) l.run (seen (g.K.Sink.taken l.sink) (g.K.Sink.faults l.sink))) × (l.run.left ≤ l.initial.run.left)
+
+abbrev pub decreases-rests-loop-e : goal.decreases-rests-loop-e
+decreases-rests-loop-e g l = length (map (λ r. r.now) (reverse l.above.items))
 
 abbrev pub invariant-arguments-loop-e : goal.invariant-arguments-loop-e
 invariant-arguments-loop-e g l = ((d : ℕ) → l.initial.run.left ≤ d → Leads (nodes.values_onto (nodes.to_depth l.p d).expr [] l.args l.initial.run) l.initial.run (seen (g.K.Sink.taken l.initial.sink) (g.K.Sink.faults l.initial.sink)) (nodes.values_onto (nodes.to_depth l.p d).expr l.values.items l.rest l.run) l.run (seen (g.K.Sink.taken l.sink) (g.K.Sink.faults l.sink))) × (l.run.left ≤ l.initial.run.left)
