@@ -7,7 +7,9 @@ use Rattle.c_parse.specs.declared.form.Wait.{Wait}
 use Rattle.c_parse.specs.Grammar.{in_body, in_switch, in_loop, Form, block, statement, action, target, subscripted, expr, chosen, binary, unary, operand, cast_type, primary, grouped, passed, Symbol, token, sub, alternatives, weight, Word, Nested, nested_at}
 use Rattle.c_parse.specs.Machine.{want, close, undecided, judged, Delay, opened, called, named, begun, indexed, Choice, refuse, take_on, defer, judge, is_chosen, choose, nth, wants, Frame, frame, readings, first_of, Telling, reading, onward, tell, nth_reading, opens, late_symbols, verdict, late_rest, State, at, is_spliced, unfolded, turn_taken, turn_chosen, turn_read, turn_told, turn, level, turns, shift}
 use Rattle.c_parse.specs.Steps.{Stuck}
-use Rattle.c_parse.proofs.Checks.{number_of, numbered, classes, class_at, every, every_look, same_class, begins, implies, each_class, each_look, same_number, number_is, implied, both_left, both_right}
+use Rattle.c_parse.proofs.Beginnings.{begins}
+use Rattle.c_parse.proofs.EachClass.{number_of, numbered, classes, class_at, every, every_look, same_class, each_class, each_look}
+use Rattle.c_parse.proofs.Truth.{implies, same_number, number_is, implied, both_left, both_right}
 use Rattle.c_parse.proofs.Sound.{level_wants, no_deeper}
 use Rattle.c_parse.proofs.Viable.{Good, deep, deep_some}
 use Rattle.c_parse.proofs.Depth.{is_inside}

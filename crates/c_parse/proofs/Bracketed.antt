@@ -5,7 +5,7 @@ use Rattle.c_parse.specs.declared.raw.Raw.{Raw}
 use Rattle.c_parse.specs.declared.form.Wait.{Wait}
 use Rattle.c_parse.specs.Grammar.{in_body, in_switch, in_loop, Form, program, ending, statement, groups, Symbol, token, sub, alternatives, Nested, bare, is_bracket, ends_in_bracket, ahead}
 use Rattle.c_parse.specs.Machine.{want, close, undecided, judged, Delay, opened, called, named, begun, indexed, Late, of_params, of_group, Choice, refuse, take_on, defer, judge, choose, nth, wants, Frame, frame, readings, first_of, Telling, reading, onward, tell, nth_reading, opens, late_symbols, verdict, late_rest, State, at, is_spliced, unfolded, turn_taken, turn_chosen, turn_read, turn_told, turn, level, turns, shift, Moves, stay, go}
-use Rattle.c_parse.proofs.Checks.{implied, or_second, both, both_left, both_right}
+use Rattle.c_parse.proofs.Truth.{implied, or_second, both, both_left, both_right}
 use Rattle.c_parse.proofs.Depth.{or_map, is_inside, calm_symbols, calm, calm_wants, Ready, inside, unopened, calmly, ready_turn}
 
 abbrev ready_symbols : List Symbol → Bool

@@ -7,7 +7,11 @@ use Rattle.c_parse.specs.declared.form.Wait.{Wait}
 use Rattle.c_parse.specs.Endings.{ends_in_jump, have_names}
 use Rattle.c_parse.specs.Grammar.{shape_of, make, Form, program, titled, statement, action, target, subscript, subscripted, assign, expr, chosen, unary, operand, cast_type, primary, grouped, passed, Symbol, token, sub, alternatives, OneOf, here, there, same_answer, allows, weight, Nested, ahead, Derives, leaf, node, DeriveAll, none, more}
 use Rattle.c_parse.specs.Machine.{want, close, undecided, judged, Delay, opened, called, named, begun, indexed, Late, of_params, of_group, Choice, refuse, take_on, defer, judge, choose, choose_unary, choose_primary, choose_titled, choose_action, nth, wants, Frame, frame, operand_of_action, readings, first_of, Telling, reading, onward, tell, nth_reading, opens, blanks, without_first, late_form, late_symbols, verdict, late_rest, State, at, is_spliced, unfolded, turn_taken, turn_chosen, turn_read, turn_told, level, Move, turns, shift, Moves, stay, go}
-use Rattle.c_parse.proofs.Checks.{every_look, same_class, begins, empties, stops, starts, vanish, comes, may_follow, implies, parted, is_judged, plain, agrees, settled, kind_fits, kind_fitting, rank, below, is_solid, solid_one, solid_all, solid_fitting, come_in, frames_come, form_of, same_number, told_right, tells_reading, tells_from, telling, lefts_of, lefts, all_opened, all_called, all_named, all_begun, each_look, both_left, both_right, same_self, number_is, implied, or_first, or_second, either, both, not_true}
+use Rattle.c_parse.proofs.Beginnings.{begins, empties}
+use Rattle.c_parse.proofs.Checks.{starts, vanish, comes, may_follow, parted, is_judged, plain, agrees, settled, kind_fits, kind_fitting, rank, is_solid, solid_one, solid_all, solid_fitting, come_in, frames_come, form_of, told_right, tells_reading, tells_from, telling, lefts_of, lefts, all_opened, all_called, all_named, all_begun}
+use Rattle.c_parse.proofs.EachClass.{every_look, same_class, each_look, same_self}
+use Rattle.c_parse.proofs.Stops.{stops}
+use Rattle.c_parse.proofs.Truth.{implies, below, same_number, both_left, both_right, number_is, implied, or_first, or_second, either, both, not_true}
 use Rattle.c_parse.proofs.Sound.{ahead_append, Reads, this, later, Deferred, at_open, at_operand, at_title, at_action, deferred_so, Judging, at_signature, at_groups, judging_so, Onward, only_onward, made_spliced, level_wants, no_deeper, spliced_light, late_light}
 use Rattle.c_parse.proofs.Fits.{FitsAt, Listed, listed, Begun, Leads, lead_more, told_at, begun_so, leads_so, part_follows, told_empty}
 

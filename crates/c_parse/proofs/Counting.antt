@@ -8,7 +8,7 @@ use Rattle.c_parse.specs.declared.tally.Last.TheVariants.{Operand, TypeWord, Hea
 use Rattle.c_parse.specs.declared.tally.Tally.{Tally}
 use Rattle.c_parse.specs.Grammar.{in_body, in_switch, in_loop, Form, program, titled, signature, ending, params, param_list, more_params, param, param_name, declarators, more_declarators, declarator, initial, list_initial, more_values, next_value, block, statement, returned, tested, stepped, groups, action, target, subscript, subscripted, assign, expr, choice, chosen, binary, operations, unary, operand, cast_type, primary, grouped, passed, arguments, more_arguments, type_name, after_char, after_sign, after_short, after_int, after_sign_short, after_sign_int, after_short_int, Symbol, token, sub, alternatives, OneOf, here, there, weight, Nested, word_at, bare, ahead, Derives, leaf, node, DeriveAll, none, more, is_expression, marks_all, Piece, apart, whole, piece_of, pieces, pieces_all, one, counted_from, operator_counts, IsText, counts_in, Word}
 use Rattle.c_parse.specs.Tally.{outside, counted, tally_of}
-use Rattle.c_parse.proofs.Checks.{same_number, both, both_left, both_right, either}
+use Rattle.c_parse.proofs.Truth.{same_number, both, both_left, both_right, either}
 use Rattle.c_parse.proofs.Inside.{tally_at, is_operand, is_head, is_other, is_some, height_after, last_after, is_part, starts_at, ends_at, needs, leaves, each_last, last_at, part_fits, tally_append, bare_append, Runs, done, step, Inside, inside_all}
 
 -- Over these words the tally counts, at each token of an expression, the binary operators that the expression has so far, and no more at another.

@@ -5,7 +5,9 @@ use Rattle.c_parse.specs.declared.raw.Raw.{Raw}
 use Rattle.c_parse.specs.declared.form.Wait.{Wait}
 use Rattle.c_parse.specs.Grammar.{Form, signature, params, param_list, param, declaration, statement, for_first, label, action, target, subscripted, expr, chosen, binary, unary, operand, cast_type, primary, grouped, passed, arguments, type_name, Symbol, token, sub, alternatives, weight}
 use Rattle.c_parse.specs.Machine.{want, close, undecided, judged, Delay, opened, called, named, begun, indexed, Late, of_params, of_group, Choice, refuse, take_on, defer, judge, choose, nth, wants, Frame, readings, first_of, Telling, reading, onward, begins_type, tell_opened, tell, nth_reading, late_symbols, verdict, late_rest, State, at, is_spliced, unfolded, turn_taken, turn_chosen, turn_read, turn_told, turn, level}
-use Rattle.c_parse.proofs.Checks.{empties, kind_fits, kind_fitting, same_number, number_is, implied, both, both_left, both_right}
+use Rattle.c_parse.proofs.Beginnings.{empties}
+use Rattle.c_parse.proofs.Checks.{kind_fits, kind_fitting}
+use Rattle.c_parse.proofs.Truth.{same_number, number_is, implied, both, both_left, both_right}
 use Rattle.c_parse.proofs.Sound.{level_wants, no_deeper}
 
 pub or_map : (a b c : Bool) → (a || b) ≡ true → (b ≡ true → c ≡ true) → (a || c) ≡ true

@@ -6,7 +6,9 @@ use Rattle.c_parse.specs.declared.raw.Raw.{Raw}
 use Rattle.c_parse.specs.declared.form.Wait.{Wait}
 use Rattle.c_parse.specs.Grammar.{in_body, in_switch, in_loop, Form, program, externals, external, unstatic, titled, signature, ending, params, param_list, param, declarators, next_value, items, item, declaration, statement, returned, for_first, tested, stepped, groups, group, labelled, action, expr, binary, unary, operand, grouped, subscripted, cast_type, chosen, arguments, passed, Symbol, token, sub, alternatives}
 use Rattle.c_parse.specs.Machine.{begins_type, Choice, refuse, take_on, defer, judge, choose, nth, want, close, undecided, judged, Delay, opened, called, named, begun, indexed, of_params, of_group, wants, readings, nth_reading, Telling, reading, onward, tell_call, tell_opened, tell_indexed, tell, State, at, is_spliced, unfolded, turn_taken, turn_chosen, turn_read, turn_told, turn}
-use Rattle.c_parse.proofs.Checks.{empties, vanish, below, implies, is_judging, kind_fits, kind_fitting, both_left, both_right}
+use Rattle.c_parse.proofs.Beginnings.{empties}
+use Rattle.c_parse.proofs.Checks.{vanish, is_judging, kind_fits, kind_fitting}
+use Rattle.c_parse.proofs.Truth.{below, implies, both_left, both_right}
 
 -- How many turns a form takes at most to its first token, twice over.
 abbrev pub rank : Form → ℕ

@@ -8,7 +8,7 @@ use Rattle.c_parse.specs.declared.raw.RawRule.TheVariants.{Program as OfProgram}
 use Rattle.c_parse.specs.declared.form.Wait.{Wait}
 use Rattle.c_parse.specs.Grammar.{program, token, sub, Nested, ahead}
 use Rattle.c_parse.specs.Machine.{want, State, turn, level}
-use Rattle.c_parse.proofs.Checks.{same_class}
+use Rattle.c_parse.proofs.EachClass.{same_class}
 use Rattle.std.specs.Prelude.{cond}
 
 -- how many words are left where the machine stops, and whether nothing is waited for

@@ -4,7 +4,11 @@ use Rattle.c_parse.specs.declared.class.Class.{Class}
 use Rattle.c_parse.specs.declared.raw.Raw.{Raw}
 use Rattle.c_parse.specs.Grammar.{Within, Form, else_part, labelled, Symbol, token, sub, alternatives, OneOf, here, there, is_else, is_label, allows_else, allows_labels, allows, weight, Nested, ahead, Derives, leaf, node, DeriveAll, none, more}
 use Rattle.c_parse.specs.Machine.{choose, nth}
-use Rattle.c_parse.proofs.Checks.{every_look, same_class, begins, empties, stops, starts, vanish, comes, may_follow, implies, parted, may_vanish, plain, agrees, tells, settled, ends_empty, fits_from, fitting, each_class, each_look, both_left, both_right, same_self, implied, or_first, or_second, both}
+use Rattle.c_parse.proofs.Beginnings.{begins, empties}
+use Rattle.c_parse.proofs.Checks.{starts, vanish, comes, may_follow, parted, may_vanish, plain, agrees, tells, settled, ends_empty, fits_from, fitting}
+use Rattle.c_parse.proofs.EachClass.{every_look, same_class, each_class, each_look, same_self}
+use Rattle.c_parse.proofs.Stops.{stops}
+use Rattle.c_parse.proofs.Truth.{implies, both_left, both_right, implied, or_first, or_second, both}
 
 -- where an alternative stands in the table, and what was checked of it
 pub record FitsAt (form : Form) (symbols : List Symbol) (n : ℕ) : Type 0 where

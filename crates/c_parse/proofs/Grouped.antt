@@ -8,7 +8,7 @@ use Rattle.c_parse.specs.declared.raw.Raw.TheVariants.{Node}
 use Rattle.c_parse.specs.declared.raw.RawRule.TheVariants.{Unary as OfUnary}
 use Rattle.c_parse.specs.Grammar.{Form, program, binary, operations, unary, Symbol, token, sub, alternatives, operators, operated, OneOf, here, there, make, weight, Nested, word_at, IsReal, ahead, Derives, leaf, node, DeriveAll, none, more, IsText}
 use Rattle.c_parse.specs.Grouping.{IsOperator, IsOperation, IsLevelled, AreGrouped, AllGrouped, IsGroupedText}
-use Rattle.c_parse.proofs.Checks.{both_left, both_right}
+use Rattle.c_parse.proofs.Truth.{both_left, both_right}
 use Rattle.c_parse.proofs.Groups.{some_tree}
 use Rattle.c_parse.proofs.Operators.{of_operator, operator_word}
 

@@ -8,7 +8,7 @@ use Rattle.c_parse.specs.declared.tally.Last.TheVariants.{Operand, TypeWord, Hea
 use Rattle.c_parse.specs.declared.tally.Tally.{Tally}
 use Rattle.c_parse.specs.Grammar.{Form, subscript, subscripted, expr, choice, chosen, binary, operations, unary, operand, cast_type, primary, grouped, passed, arguments, more_arguments, type_name, after_char, after_sign, after_short, after_int, after_sign_short, after_sign_int, after_short_int, Symbol, token, sub, alternatives, OneOf, here, there, same_answer, holds_operators, marks, marks_all, one, weight, Nested, word_at, bare, ahead, Derives, leaf, node, DeriveAll, none, more, Word}
 use Rattle.c_parse.specs.Tally.{added, closed, deeper, opening, closing, parting, counted, tally_of}
-use Rattle.c_parse.proofs.Checks.{same_number, implies, implied, both_left, both_right, number_is}
+use Rattle.c_parse.proofs.Truth.{same_number, implies, implied, both_left, both_right, number_is}
 use Rattle.c_parse.proofs.Tallies.{closing_some, parting_some}
 
 -- At each of these words the tally has counted one more where it is a binary operator: from so many to so many.

@@ -1,9 +1,11 @@
+pub mod Beginnings
 pub mod Begun
 pub mod Bracketed
 pub mod Checks
 pub mod Complete
 pub mod Counting
 pub mod Depth
+pub mod EachClass
 pub mod Effort
 pub mod Examples
 pub mod Fits
@@ -20,7 +22,9 @@ pub mod Sparse
 pub mod Spellings
 pub mod Stacks
 pub mod Stepping
+pub mod Stops
 pub mod Tallies
 pub mod TooDeep
+pub mod Truth
 pub mod Viable
 pub mod Whole

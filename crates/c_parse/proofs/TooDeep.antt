@@ -8,7 +8,7 @@ use Rattle.c_parse.specs.declared.form.Wait.{Wait}
 use Rattle.c_parse.specs.Grammar.{program, Form, token, sub, Word, Nested, word_at, nested_at, bare, IsText, IsReal, Begins, IsOpen, StandsAt, ends_in_bracket, IsTooDeep, in_text, in_bracket, one_operator_more, ahead}
 use Rattle.c_parse.specs.Machine.{want, undecided, opened, begins_type, tell_opened, turn_told, State, at, turn, level, Move, turns, shift, Moves, stay, go}
 use Rattle.c_parse.specs.Steps.{Stuck, Reaches, Refuses, Stands}
-use Rattle.c_parse.proofs.Checks.{same_class, same_self}
+use Rattle.c_parse.proofs.EachClass.{same_class, same_self}
 use Rattle.c_parse.proofs.Complete.{then, one, read_whole}
 use Rattle.c_parse.proofs.Viable.{Good, deep, deep_some, good_moves}
 use Rattle.c_parse.proofs.Whole.{good_start, goes_onward, ended_stuck, read_levels, begins_so, text_behind, Parting, part, not_so, same_nested}

@@ -9,7 +9,8 @@ use Rattle.std.proofs.lemmas.List.Elements.{All-nil, All-cons, All-append}
 use Rattle.c_parse.specs.declared.form.Wait.{Wait}
 use Rattle.c_parse.specs.Grammar.{make, Within, Form, program, externals, external, unstatic, titled, signature, ending, params, param_list, more_params, param, param_name, declarators, more_declarators, declarator, initial, list_initial, more_values, next_value, block, items, item, declaration, statement, else_part, returned, for_first, tested, stepped, groups, group, labelled, label, action, target, subscript, subscripted, assign, expr, choice, chosen, binary, operations, unary, operand, cast_type, primary, grouped, passed, arguments, more_arguments, type_name, after_char, after_sign, after_short, after_int, after_sign_short, after_sign_int, after_short_int, Symbol, token, sub, alternatives, OneOf, here, there, allows, weight, Nested, nested_at, IsReal, ahead, Derives, leaf, node, DeriveAll, none, more}
 use Rattle.c_parse.specs.Machine.{want, close, undecided, judged, Delay, opened, called, named, begun, indexed, Late, of_params, of_group, Choice, refuse, take_on, defer, judge, choose, nth, wants, Frame, frame, readings, first_of, Telling, reading, onward, tell, nth_reading, opens, blanks, without_first, late_form, late_symbols, verdict, late_rest, State, at, is_spliced, unfolded, turn_taken, turn_chosen, turn_read, turn_told, turn, level, Move, turns, shift, Moves, stay, go}
-use Rattle.c_parse.proofs.Checks.{is_judged, plain, all_plain, kind_fits, kind_fitting, both, both_left, both_right, not_true}
+use Rattle.c_parse.proofs.Checks.{is_judged, plain, all_plain, kind_fits, kind_fitting}
+use Rattle.c_parse.proofs.Truth.{both, both_left, both_right, not_true}
 use Rattle.c_parse.proofs.Spellings.{sample, sample_genuine}
 use Rattle.c_parse.proofs.Sound.{Completes, ended, wanted, closed, read_as, judged_so, Reads, this}
 

@@ -1,5 +1,5 @@
 /// A class of tokens that the grammar of the C profile doesn't tell apart.
-#[derive(Clone, Copy, Debug, PartialEq, Eq)]
+#[derive(Clone, Copy, PartialEq, Eq)]
 pub enum Class {
     Name,
     Number,

@@ -2,7 +2,7 @@ use crate::class::Class;
 
 /// What `break` and `continue` a statement may hold: it stands in the body of a function, in a
 /// `switch` that no loop holds, or in a loop.
-#[derive(Clone, Copy, Debug, PartialEq, Eq)]
+#[derive(Clone, Copy)]
 pub enum Within {
     Body,
     Switch,
@@ -10,7 +10,7 @@ pub enum Within {
 }
 
 /// What stands for a part of a text.
-#[derive(Clone, Copy, Debug, PartialEq, Eq)]
+#[derive(Clone, Copy)]
 pub enum Form {
     Program,
     Externals,
@@ -86,14 +86,14 @@ pub enum Form {
 }
 
 /// A token of a class, or a part of the text.
-#[derive(Clone, Copy, Debug, PartialEq, Eq)]
+#[derive(Clone, Copy)]
 pub enum Symbol {
     Token(Class),
     Sub(Form),
 }
 
 /// What is read before it is told what it begins.
-#[derive(Clone, Copy, Debug, PartialEq, Eq)]
+#[derive(Clone, Copy)]
 pub enum Delay {
     /// A ( of an operand: a cast, or an expression in parentheses.
     Opened,
@@ -108,7 +108,7 @@ pub enum Delay {
 }
 
 /// What is known of a part once it is read.
-#[derive(Clone, Copy, Debug, PartialEq, Eq)]
+#[derive(Clone, Copy)]
 pub enum Late {
     /// Whether parameters all have names.
     Params,
@@ -117,7 +117,7 @@ pub enum Late {
 }
 
 /// What the parser waits for.
-#[derive(Clone, Copy, Debug, PartialEq, Eq)]
+#[derive(Clone, Copy)]
 pub enum Wait {
     Want(Symbol),
     Close(Form),

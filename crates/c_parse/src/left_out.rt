@@ -1,6 +1,6 @@
 /// Where a token of a class that no text of the grammar goes on with begins what the profile leaves
 /// out of C.
-#[derive(Clone, Copy, Debug, PartialEq, Eq)]
+#[derive(Clone, Copy)]
 pub enum LeftOut {
     Nowhere,
     Anywhere,

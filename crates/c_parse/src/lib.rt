@@ -3,6 +3,10 @@
 
 mod begins;
 mod choose;
+mod choose_declaration;
+mod choose_expression;
+mod choose_external;
+mod choose_statement;
 mod choose_type;
 mod class;
 mod class_of;
@@ -11,8 +15,6 @@ mod fault;
 mod fitting;
 mod form;
 mod grouping;
-#[cfg(test)]
-mod grouping_tests;
 mod last_words;
 mod laws;
 mod left_out;
@@ -22,8 +24,6 @@ mod parsing;
 mod profile;
 mod raw;
 mod tally;
-#[cfg(test)]
-mod tests;
 mod waits;
 mod words;
 

@@ -27,7 +27,6 @@ pub enum RawRule {
 }
 
 /// The tree of a text: a token with its bytes, or a rule with the tokens and trees of its alternative.
-#[derive(Drop)]
 pub enum Raw {
     Leaf {
         kind: TokenKind,
@@ -38,4 +37,33 @@ pub enum Raw {
         rule: RawRule,
         parts: Items<Raw>,
     },
+}
+
+/// Goes down the first parts in a loop: the operands of an expression may lie 1,000 deep in them, all other parts 64.
+impl Drop for Raw {
+    fn drop(mut self) {
+        'nodes: loop {
+            match self {
+                Raw::Leaf {
+                    kind: _,
+                    text: _text,
+                    place: _,
+                } => return,
+                Raw::Node { rule: _, parts } => {
+                    let mut parts = parts;
+                    let Some(last) = parts.pop() else {
+                        drop(parts);
+                        return;
+                    };
+                    let mut part = last;
+                    'parts: while let Some(before) = parts.pop() {
+                        drop(part);
+                        part = before;
+                    }
+                    drop(parts);
+                    self = part;
+                }
+            }
+        }
+    }
 }

@@ -1,5 +1,5 @@
-mod Shown
-mod Steady
+pub mod Shown
+pub mod Steady
 mod SteadyNodes
 mod Chain
 mod Operands

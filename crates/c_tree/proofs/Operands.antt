@@ -1,5 +1,5 @@
 -- How the words of first operands that lie within each other stand to the parts of the meaning.
-use Rattle.std.proofs.Common.{◌≡◌, ℕ, zero, suc, ◌+◌, ◌<◌, ◌≤◌, List, [], ◌∷◌, ◌++◌, Option, Some, None, refl, sym, ap, ◌∙◌, subst, arith, append_assoc, append-nil}
+use Rattle.std.proofs.Common.{◌≡◌, ℕ, zero, suc, ◌≤◌, List, [], ◌∷◌, ◌++◌, Some, None, refl, sym, ap, ◌∙◌, subst, arith, append_assoc, append-nil}
 use Rattle.std.specs.Prelude.{Result, Ok, Err}
 use Rattle.c_values.specs.declared.ops.Ty.{Ty}
 use Rattle.c_tree.specs.declared.tree.Program.{Program}
@@ -9,7 +9,7 @@ use Rattle.c_tree.specs.declared.tree.ExprKind.TheOpen.{ExprKind-F}
 use Rattle.c_tree.specs.Layer.{ExprLayer}
 use Rattle.c_tree.specs.Runs.{Event, State, Got, Done, Trapped, Stopped, Part, behind_events, go_on, begin, pure}
 use Rattle.c_tree.specs.Nodes.{Within, expr_by, to_depth}
-use Rattle.c_tree.specs.Chains.{first_of, rest_of, rests_of}
+use Rattle.c_tree.specs.Chains.{first_of, rest_of, leaf_of, rests_of}
 use Rattle.c_tree.specs.Lines.{Seen}
 use Rattle.c_tree.specs.declared.halt.Halt.{Halt}
 use Rattle.c_tree.specs.declared.halt.Halt.TheVariants as halt
@@ -41,14 +41,43 @@ on_pure (Stopped es) = refl
 parted : (p : Program) (d : Within) (ty : Ty) (l : ExprLayer) (a : Expr) (s : State) → first_of l ≡ Some a → expr_by p d ty l s ≡ go_on (d.expr a s) (rest_of d ty l)
 parted p d ty (ExprKind-F.Number w) a s h = cc
 parted p d ty (ExprKind-F.Var x) a s h = cc
-parted p d ty (ExprKind-F.Element x i) a s h = cc
+parted p d ty (ExprKind-F.Element x i) a s h = let q : i ≡ a = cc in rw (← q) refl
 parted p d ty (ExprKind-F.Convert e) a s h = let q : e ≡ a = cc in rw (← q) refl
 parted p d ty (ExprKind-F.Unary op e) a s h = let q : e ≡ a = cc in rw (← q) refl
 parted p d ty (ExprKind-F.Binary op e b) a s h = let q : e ≡ a = cc in rw (← q) refl
-parted p d ty (ExprKind-F.Cond e y n) a s h = cc
+parted p d ty (ExprKind-F.Cond e y n) a s h = let q : e ≡ a = cc in rw (← q) refl
 parted p d ty (ExprKind-F.Call f args) a s h = cc
 parted p d ty ExprKind-F.Input a s h = cc
-parted p d ty (ExprKind-F.Output e) a s h = cc
+parted p d ty (ExprKind-F.Output e) a s h = let q : e ≡ a = cc in rw (← q) refl
+
+-- an expression that has none
+leafed : (p : Program) (d : Within) (ty : Ty) (l : ExprLayer) (s : State) → first_of l ≡ None → expr_by p d ty l s ≡ leaf_of p d l s
+leafed p d ty (ExprKind-F.Number w) s h = refl
+leafed p d ty (ExprKind-F.Var x) s h = refl
+leafed p d ty (ExprKind-F.Element x i) s h = cc
+leafed p d ty (ExprKind-F.Convert e) s h = cc
+leafed p d ty (ExprKind-F.Unary op e) s h = cc
+leafed p d ty (ExprKind-F.Binary op e b) s h = cc
+leafed p d ty (ExprKind-F.Cond e y n) s h = cc
+leafed p d ty (ExprKind-F.Call f args) s h = refl
+leafed p d ty ExprKind-F.Input s h = refl
+leafed p d ty (ExprKind-F.Output e) s h = cc
+
+-- its first operand fails
+pub node_fails : (p : Program) (d : Within) (ty : Ty) (l : ExprLayer) (e : Expr) (s s1 : State) (a b : Seen) (h : Halt) (r : Result ℕ Halt) → first_of l ≡ Some e → r ≡ Err h
+    → Follows (d.expr e s) s a (Err h) s1 b → Follows (expr_by p d ty l s) s a r s1 b
+node_fails p d ty l e s s1 a b h r f q k =
+    subst (λ got. Follows got s a r s1 b) (sym (parted p d ty l e s f)) (fails (d.expr e s) (rest_of d ty l) s s1 a b h r q k)
+
+-- its first operand gives a word, and then what comes behind it
+pub node_parted : (p : Program) (d : Within) (ty : Ty) (l : ExprLayer) (e : Expr) (s s1 s2 : State) (a b c : Seen) (w : ℕ) (r : Result ℕ Halt) → first_of l ≡ Some e
+    → Follows (d.expr e s) s a (Ok w) s1 b → Follows (rest_of d ty l w s1) s1 b r s2 c → Follows (expr_by p d ty l s) s a r s2 c
+node_parted p d ty l e s s1 s2 a b c w r f k m =
+    subst (λ got. Follows got s a r s2 c) (sym (parted p d ty l e s f)) (follows_ok (d.expr e s) (rest_of d ty l) s s1 s2 a b c w r k m)
+
+pub node_leaf : (p : Program) (d : Within) (ty : Ty) (l : ExprLayer) (s s1 : State) (a b : Seen) (r : Result ℕ Halt) → first_of l ≡ None
+    → Follows (leaf_of p d l s) s a r s1 b → Follows (expr_by p d ty l s) s a r s1 b
+node_leaf p d ty l s s1 a b r f k = subst (λ got. Follows got s a r s1 b) (sym (leafed p d ty l s f)) k
 
 pub chain_start : (p : Program) (e : Expr) (es : List Expr) (d : ℕ) (s : State) (a : Seen) → es ≡ [] → Leads ((to_depth p d).expr e s) s a (go_on ((to_depth p d).expr e s) (rests_of p d es)) s a
 chain_start p e es d s a h = λ r s2 a2 k.

@@ -5,6 +5,7 @@ pub mod Meaning
 pub mod Laws
 pub mod Lines
 pub mod Stored
+pub mod Arms
 pub mod Chains
 pub mod Follows
 pub mod Said

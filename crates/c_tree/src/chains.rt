@@ -9,14 +9,21 @@ use crate::tree::{Expr, ExprKind};
 /// This many first operands within each other are evaluated by calls within each other; more take a list.
 const SHALLOW: u32 = 2;
 
-/// The operand with which a conversion or an operator begins.
+/// The operand that is evaluated first, unless there is none or it is an argument.
 pub fn first_of<'a>(e: &'a Expr) -> Option<&'a Expr>
     ensures { MatchOption result (chains.first_of (out-ExprKind e.now.kind) ≡ None) (λ a. chains.first_of (out-ExprKind e.now.kind) ≡ Some a.now) }
 {
     match &e.kind {
+        ExprKind::Element { array: _, index } => Some(index.get()),
         ExprKind::Convert(inner) => Some(inner.get()),
         ExprKind::Unary { op: _, a } => Some(a.get()),
         ExprKind::Binary { op: _, a, b: _ } => Some(a.get()),
+        ExprKind::Cond {
+            test,
+            yes: _,
+            no: _,
+        } => Some(test.get()),
+        ExprKind::Output(inner) => Some(inner.get()),
         _ => None,
     }
 }

@@ -11,8 +11,6 @@ mod nodes;
 mod quiet;
 mod run;
 mod saying;
-#[cfg(test)]
-mod tests;
 mod tree;
 
 pub use c_values::{BinaryOp, Ty, UnaryOp};

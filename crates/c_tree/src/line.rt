@@ -4,6 +4,7 @@ ghost use Rattle.base_io.specs.Counts.{CountsFaults};
 ghost use Rattle.base_io.specs.Pieces.{AddsTold};
 ghost use Rattle.c_tree.specs.Lines.{line, seen};
 ghost use Rattle.c_tree.specs.Runs as spec;
+ghost use Rattle.c_tree.specs.Arms.{shown_by};
 ghost use Rattle.c_tree.specs.Follows.{Follows};
 
 use crate::halt::Halt;
@@ -25,9 +26,16 @@ fn put_line<K: Sink>(word: u16, sink: &mut K) -> Result<(), SinkFault>
     sink.put(text.as_bytes())
 }
 
-/// Puts a word.
+/// Puts a word. The value of that is 0.
+pub fn shown<K: Sink>(word: u16, sink: &mut K) -> Result<u16, Halt>
+    ensures { (s : spec.State) → Follows (shown_by word s) s (seen (K.taken sink.old) (K.faults sink.old)) result s (seen (K.taken sink.new) (K.faults sink.new)) }
+{
+    put(word, sink)?;
+    Ok(0)
+}
+
 #[inline(never)]
-pub fn put<K: Sink>(word: u16, sink: &mut K) -> Result<(), Halt>
+fn put<K: Sink>(word: u16, sink: &mut K) -> Result<(), Halt>
     ensures { (s : spec.State) → Follows (spec.put word s) s (seen (K.taken sink.old) (K.faults sink.old)) result s (seen (K.taken sink.new) (K.faults sink.new)) }
 {
     match put_line(word, sink) {

@@ -36,7 +36,6 @@ pub struct Function {
 }
 
 /// An expression and the type of its value.
-#[derive(Drop)]
 #[cycle(expr)]
 pub struct Expr {
     pub place: Place,
@@ -76,6 +75,42 @@ pub enum ExprKind {
     },
     Input,
     Output(Boxed<Expr>),
+}
+
+/// Goes down the first operands in a loop: they may lie some 1,000 deep, all other operands 64.
+impl Drop for Expr {
+    #[cycle(expr)]
+    fn drop(mut self) {
+        'operands: loop {
+            let Expr {
+                place: _,
+                ty: _,
+                kind,
+            } = self;
+            match kind {
+                ExprKind::Element { array: _, index } => self = index.into_inner(),
+                ExprKind::Convert(inner) => self = inner.into_inner(),
+                ExprKind::Unary { op: _, a } => self = a.into_inner(),
+                ExprKind::Binary { op: _, a, b } => {
+                    drop(b);
+                    self = a.into_inner();
+                }
+                ExprKind::Cond { test, yes, no } => {
+                    drop(yes);
+                    drop(no);
+                    self = test.into_inner();
+                }
+                ExprKind::Output(inner) => self = inner.into_inner(),
+                ExprKind::Call { function: _, args } => {
+                    drop(args);
+                    return;
+                }
+                ExprKind::Number(_word) => return,
+                ExprKind::Var(_variable) => return,
+                ExprKind::Input => return,
+            }
+        }
+    }
 }
 
 /// What is assigned to: a scalar, or an element of an array.

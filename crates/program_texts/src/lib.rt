@@ -5,12 +5,6 @@ mod fault;
 mod front;
 mod laws;
 mod showing;
-#[cfg(test)]
-mod tests;
-#[cfg(test)]
-mod typing_rows;
-#[cfg(test)]
-mod typing_tests;
 
 pub use fault::{ProgramFault, ProgramRefusal};
 pub use front::program_of;
