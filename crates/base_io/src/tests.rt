@@ -1,82 +1,9 @@
-//! Tests of what no clause says: that each call succeeds with ample memory, and what the system is given.
+//! Tests of what no clause says: what the system is given, and short reads and writes.
 use crate::streams::{read_within, write_whole};
-use crate::{
-    FileStore, GetFault, MemSink, MemStore, PutFault, Sink, SinkFault, StdSink, Store, put_dec,
-    put_hex,
-};
+use crate::{FileStore, GetFault, PutFault, Sink, StdSink, Store};
 use std::io::{ErrorKind, Read, Write};
 use std::test::Fail;
 use std::{fs, io, process};
-
-#[test]
-fn store_in_memory(rt: HostRuntime) -> Result<(), Fail> {
-    let alloc = rt.alloc();
-    let files = vec![in alloc;
-        (
-            String::from_str(alloc, "a")?,
-            Vec::from_slice(alloc, b"12345")?
-        ),
-        (String::from_str(alloc, "b")?, Vec::new(alloc)),
-    ]?;
-    let mut store = MemStore::new(alloc, files, vec![in alloc; 2]?, vec![in alloc; 3]?)?;
-    let gets: [(&str, usize, Result<&[u8], GetFault>); 5] = [
-        ("a", 5, Ok(b"12345")),
-        ("a", 5, Err(GetFault::Failed)),
-        ("a", 4, Err(GetFault::TooLong { seen: 5 })),
-        ("c", 5, Err(GetFault::Failed)),
-        ("b", 0, Ok(b"")),
-    ];
-    for (name, limit, want) in gets {
-        match store.get(name, limit) {
-            Ok(bytes) => assert_eq!(rt; Ok(bytes.as_slice()), want, "get {name} {limit}"),
-            Err(fault) => assert_eq!(rt; Err(fault), want, "get {name} {limit}"),
-        }
-    }
-    assert_eq!(rt; store.file("c"), None);
-    store.reserve("c", 3)?;
-    store.reserve("c", 1)?;
-    assert_eq!(rt; store.file("c"), None);
-    let puts: [(&str, &[u8], Result<(), PutFault>, Option<&[u8]>); 6] = [
-        ("a", b"", Err(PutFault::Failed), Some(b"12345")),
-        ("c", b"abc", Ok(()), Some(b"abc")),
-        ("c", b"de", Err(PutFault::Failed), Some(b"abc")),
-        ("c", b"defg", Err(PutFault::Failed), Some(b"abc")),
-        ("c", b"de", Ok(()), Some(b"de")),
-        ("d", b"", Err(PutFault::Failed), None),
-    ];
-    for (name, bytes, want, file) in puts {
-        assert_eq!(rt; store.put(name, bytes), want, "put {name}");
-        assert_eq!(rt; store.file(name), file, "put {name}");
-    }
-    Ok(())
-}
-
-#[test]
-fn sink_in_memory(rt: HostRuntime) -> Result<(), Fail> {
-    let alloc = rt.alloc();
-    let mut sink = MemSink::new(alloc, 5, vec![in alloc; 2]?)?;
-    let pieces: [(&[u8], Result<(), SinkFault>, &[u8]); 4] = [
-        (b"abc", Ok(()), b"abc"),
-        (b"d", Err(SinkFault::Failed), b"abc"),
-        (b"defg", Err(SinkFault::Failed), b"abcde"),
-        (b"", Ok(()), b"abcde"),
-    ];
-    for (bytes, want, taken) in pieces {
-        assert_eq!(rt; sink.put(bytes), want);
-        assert_eq!(rt; sink.bytes(), taken);
-    }
-    let mut sink = MemSink::new(alloc, 100, Vec::new(alloc))?;
-    put_dec(0, &mut sink)?;
-    put_dec(18446744073709551615, &mut sink)?;
-    for n in [0, 0xFFFF, 0x1AB9] {
-        put_hex(n, &mut sink)?;
-    }
-    assert_eq!(rt;
-        sink.bytes(),
-        b"0184467440737095516150000FFFF1AB9".as_slice()
-    );
-    Ok(())
-}
 
 #[test]
 fn files_and_standard_output(rt: HostRuntime) -> Result<(), Fail> {

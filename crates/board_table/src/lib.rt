@@ -11,6 +11,3 @@ mod read;
 pub use board::{Access, Board, Core};
 pub use fault::BoardFault;
 pub use read::read_board;
-
-#[cfg(test)]
-mod tests;

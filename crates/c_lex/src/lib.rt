@@ -9,8 +9,6 @@ mod piece;
 mod reading;
 mod scanning;
 mod spot;
-#[cfg(test)]
-mod tests;
 mod token;
 mod words;
 

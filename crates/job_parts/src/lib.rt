@@ -11,8 +11,6 @@ ghost use Rattle.job_parts.specs.Found.{numbers, read_slot, texts_of};
 mod decimal;
 mod input;
 mod job;
-#[cfg(test)]
-mod tests;
 
 use base_io::Memory;
 use clap::error::ErrorKind;

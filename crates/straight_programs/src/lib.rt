@@ -5,8 +5,6 @@ mod laws;
 mod operations;
 mod program;
 mod shape;
-#[cfg(test)]
-mod shape_tests;
 
 pub use laws::{are_steady, do_what_statements_do, end_with_all, go_on_before, has_one_shape};
 pub use operations::MOST_OPERATIONS;

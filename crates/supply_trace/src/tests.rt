@@ -1,5 +1,5 @@
-//! What no clause says: that each call succeeds with ample memory, on texts and boxes as they are written.
-use crate::{Bench, Failing, Given, Recorded, Supply, TraceFault, Worst, rows};
+//! What no clause says: that each call on boxes succeeds with ample memory.
+use crate::{Bench, Failing, Given, Recorded, Supply, Worst};
 use msp430_machine::Refill;
 use std::alloc::Global;
 use std::test::Fail;
@@ -27,39 +27,6 @@ fn recorded(alloc: Global, refills: &[Refill]) -> Result<Recorded, Fail> {
         return Err(Fail::from(std::alloc::AllocError));
     }
     Ok(recorded)
-}
-
-#[test]
-fn texts_are_read(rt: HostRuntime) -> Result<(), Fail> {
-    let alloc = rt.alloc();
-    let texts: [(&[u8], Result<&[Refill], TraceFault>); 16] = [
-        (b"", Ok(&[])),
-        (b"\n\n", Ok(&[])),
-        (b"2000 keep", Ok(&[keeping(2000)])),
-        (b"0 lose FFFF\n", Ok(&[losing(0, 65535)])),
-        (
-            b"\n1000000000 keep\n\n007 lose 0aBc\n",
-            Ok(&[keeping(1_000_000_000), losing(7, 0x0ABC)]),
-        ),
-        (b"2000 maybe", Err(TraceFault::BadLine { at: 0 })),
-        (b"1 keep\n2 kee", Err(TraceFault::BadLine { at: 7 })),
-        (b"\n1000000001 keep", Err(TraceFault::BadLine { at: 1 })),
-        (b"1 keep\r\n", Err(TraceFault::BadLine { at: 0 })),
-        (b"1  keep", Err(TraceFault::BadLine { at: 0 })),
-        (b"1 keep ", Err(TraceFault::BadLine { at: 0 })),
-        (b" keep", Err(TraceFault::BadLine { at: 0 })),
-        (b"12", Err(TraceFault::BadLine { at: 0 })),
-        (b"1 lose 00G0", Err(TraceFault::BadLine { at: 0 })),
-        (b"1 lose 000", Err(TraceFault::BadLine { at: 0 })),
-        (b"+1 keep", Err(TraceFault::BadLine { at: 0 })),
-    ];
-    for (text, want) in texts {
-        match rows(alloc, text) {
-            Ok(read) => assert_eq!(rt; Ok(read.as_slice()), want),
-            Err(fault) => assert_eq!(rt; Err(fault), want),
-        }
-    }
-    Ok(())
 }
 
 #[test]

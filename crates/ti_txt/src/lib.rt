@@ -14,6 +14,3 @@ pub use image::{Image, Segment};
 pub use laws::{one_answer, some_answer};
 pub use reading::read;
 pub use writing::write;
-
-#[cfg(test)]
-mod tests;
