@@ -2,3 +2,4 @@ pub mod Examples
 pub mod Decoding
 pub mod Loading
 pub mod Held
+pub mod Costs
