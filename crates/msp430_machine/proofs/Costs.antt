@@ -1,9 +1,7 @@
 -- What an instruction costs that makes no address of a register.
 use Rattle.std.proofs.Common.{◌≡◌, true, false, refl, sym, ap, ◌∙◌}
-use Rattle.std.specs.Prelude.{◌&&◌}
 use Rattle.std.proofs.lemmas.Bool.{and_parts}
 use Rattle.board_table.specs.declared.board.Board.{Board}
-use Rattle.msp430_isa.specs.declared.instr.TwoOp.{TwoOp}
 use Rattle.msp430_isa.specs.declared.instr.OneOp.{OneOp}
 use Rattle.msp430_isa.specs.declared.instr.OneOp.TheVariants.{Push as PUSH, Call as CALL}
 use Rattle.msp430_isa.specs.declared.instr.Src.{Src}

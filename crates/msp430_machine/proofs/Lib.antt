@@ -3,3 +3,5 @@ pub mod Decoding
 pub mod Loading
 pub mod Held
 pub mod Costs
+pub mod Memories
+pub mod Writes
