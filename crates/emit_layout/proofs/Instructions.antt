@@ -14,10 +14,9 @@ use Rattle.msp430_isa.specs.Profile.{is_constant, in_profile}
 use Rattle.msp430_isa.specs.Results.{jump_target}
 use Rattle.msp430_machine.specs.State.{State, set_at}
 use Rattle.msp430_machine.specs.Access.{access_fault}
-use Rattle.msp430_machine.specs.Cost.{cost}
+use Rattle.msp430_machine.specs.Cost.{cost, any_state}
 use Rattle.msp430_machine.specs.Execution.{done, put_by, gone_to}
 use Rattle.emit_layout.specs.Code.{move, constant}
-use Rattle.emit_layout.specs.Need.{any_state}
 
 -- boot
 abbrev pub tests : Instr

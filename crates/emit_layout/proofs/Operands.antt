@@ -2,7 +2,6 @@
 use Rattle.std.proofs.Common.{◌≡◌, ℕ, ◌/◌, ◌%◌, ◌<◌, true, false, List, Some, None, refl, ap, ◌∙◌, arith}
 use Rattle.std.specs.Prelude.{◌==◌, nat_lt, if◌then◌else◌, Bool, ◌&&◌, All, IsTrue}
 use Rattle.std.proofs.lemmas.List.Elements.{All-from_recursion}
-use Rattle.std.proofs.lemmas.Bool.Decides.{nat_tests}
 use Rattle.board_table.specs.declared.board.Board.{Board}
 use Rattle.msp430_isa.specs.declared.instr.Src.TheVariants.{Reg as FromReg, Abs as FromAbs, Imm, Short}
 use Rattle.msp430_isa.specs.declared.instr.Dst.TheVariants.{Reg as ToReg, Abs as ToAbs}
@@ -10,15 +9,16 @@ use Rattle.msp430_isa.specs.declared.instr.TwoOp.TheVariants.{Add as ADD}
 use Rattle.msp430_isa.specs.declared.instr.Instr.{Instr}
 use Rattle.msp430_isa.specs.declared.instr.Instr.TheVariants.{Two}
 use Rattle.msp430_isa.specs.Profile.{is_constant, in_profile}
-use Rattle.msp430_machine.specs.declared.answer.Why.TheVariants.{Odd}
-use Rattle.msp430_machine.specs.Addresses.{Fram, region}
+use Rattle.msp430_machine.specs.declared.addresses.Region.TheVariants.{Fram}
+use Rattle.msp430_machine.specs.Addresses.{region}
 use Rattle.msp430_machine.specs.State.{State, set_at, with_register}
-use Rattle.msp430_machine.specs.Memory.{word_in, read_in, after_read_in, written_in, put_in}
-use Rattle.msp430_machine.specs.Access.{AsSource, ByMove, access_fault, fault_in, first_of}
-use Rattle.msp430_machine.specs.Cost.{cost}
+use Rattle.msp430_machine.specs.Memory.{read}
+use Rattle.msp430_machine.specs.Access.{AsSource, ByMove, access_fault, first_of}
+use Rattle.msp430_machine.specs.Cost.{cost, any_state}
 use Rattle.msp430_machine.specs.Execution.{done, put_by}
+use Rattle.msp430_machine.proofs.Memories.{IsAt, is_fram, is_word, word_allowed, read_at, after_read_at, puts_none_at}
+use Rattle.msp430_machine.proofs.Writes.{word_by, written_in_fram}
 use Rattle.emit_layout.specs.Code.{move}
-use Rattle.emit_layout.specs.Need.{any_state}
 use Rattle.emit_layout.specs.Operations.{Operand, Constant, Object, Operation, Copy, Add, Input, Output, OperationFits, template, address_of, source_of, OperandFits}
 use Rattle.emit_layout.proofs.Performing.{word_of, operand_value}
 
@@ -36,20 +36,17 @@ adds = Two ADD false (FromReg 14) (ToReg 15)
 
 -- ---- Where an object stands
 
-pub in_fram : (k : ℕ) → k < 7680 → region (address_of k) ≡ Fram
-in_fram k low = grind (arith, nat_tests)
+pub object_at : (k : ℕ) → k < 7680 → IsAt (address_of k) Fram
+object_at k low = record { inside = is_fram (address_of k) (omega arith) (omega (arith, low)); even = omega arith }
 
-pub is_even : (k : ℕ) → (address_of k % 2 == 1) ≡ false
-is_even k = let e : address_of k % 2 ≡ 0 = omega arith in grind (arith, nat_tests)
+pub in_fram : (k : ℕ) → k < 7680 → region (address_of k) ≡ Fram
+in_fram k low = (object_at k low).inside.lies
 
 half_of : (k : ℕ) → address_of k / 2 ≡ word_of k
 half_of k = omega arith
 
-is_word : (k : ℕ) → k < 7680 → nat_lt (address_of k) 65536 ≡ true
-is_word k low = grind (arith, nat_tests)
-
-number : (v : ℕ) → v < 65536 → nat_lt v 65536 ≡ true
-number v low = grind (arith, nat_tests)
+object_is_word : (k : ℕ) → k < 7680 → nat_lt (address_of k) 65536 ≡ true
+object_is_word k low = is_word (address_of k) (omega (arith, low))
 
 -- ---- A load
 
@@ -59,11 +56,9 @@ by_source c v r = move (if c then Short v else Imm v) (ToReg r)
 pub load_does : (input : List ℕ) (r : ℕ) (a : Operand) (s : State) → OperandFits a → done input (loads_to r a) s ≡ with_register s r (operand_value s.fram a)
 load_does input r (Constant v) s fits = elim (is_constant v) as (λ c. done input (by_source c v r) s ≡ with_register s r v) [ true ↦ refl | false ↦ refl ]
 load_does input r (Object k) s fits =
-    let there : done input (loads_to r (Object k)) s ≡ with_register s r (word_in (region (address_of k)) s (address_of k)) =
-    ap (λ g. with_register (after_read_in g s) r (read_in g input false s (address_of k))) (in_fram k fits) in
-    let found : with_register s r (word_in (region (address_of k)) s (address_of k)) ≡ with_register s r (s.fram (address_of k / 2)) =
-    ap (λ g. with_register s r (word_in g s (address_of k))) (in_fram k fits) in
-    there ∙ found ∙ ap (λ h. with_register s r (s.fram h)) (half_of k)
+    let at : IsAt (address_of k) Fram = object_at k fits in
+    ap (λ t. with_register t r (read input false s (address_of k))) (after_read_at s (address_of k) Fram at.inside)
+    ∙ ap (λ v. with_register s r v) (read_at input false s (address_of k) Fram at.inside ∙ word_by s (address_of k) Fram at.inside.lies ∙ ap (λ h. s.fram h) (half_of k))
 
 pub load_puts : (input : List ℕ) (r : ℕ) (a : Operand) (s : State) → put_by input (loads_to r a) s ≡ None
 load_puts input r (Constant v) s = elim (is_constant v) as (λ c. put_by input (by_source c v r) s ≡ None) [ true ↦ refl | false ↦ refl ]
@@ -75,44 +70,38 @@ load_costs b r (Object k) s = refl
 
 pub load_allowed : (r : ℕ) (a : Operand) (s : State) → OperandFits a → access_fault s (loads_to r a) ≡ None
 load_allowed r (Constant v) s fits = elim (is_constant v) as (λ c. access_fault s (by_source c v r) ≡ None) [ true ↦ refl | false ↦ refl ]
-load_allowed r (Object k) s fits =
-    ap (λ c. first_of (if c then Some Odd else fault_in (region (address_of k)) AsSource false (address_of k)) None) (is_even k)
-    ∙ ap (λ g. first_of (fault_in g AsSource false (address_of k)) None) (in_fram k fits)
+load_allowed r (Object k) s fits = ap (λ f. first_of f None) (word_allowed AsSource (address_of k) Fram (object_at k fits))
 
 pub load_fits : (a : Operand) → OperandFits a → in_profile (loads_to 15 a) ≡ true
 load_fits (Constant v) low =
     elim (is_constant v) as (λ c. is_constant v ≡ c → in_profile (by_source c v 15) ≡ true) [
       | true ↦ λ e. ap (λ c. c && true && true && true && true && true && (true && true)) e
-      | false ↦ λ e. ap (λ c. c && true) (number v low)
+      | false ↦ λ e. ap (λ c. c && true) (is_word v low)
     ] refl
-load_fits (Object k) low = ap (λ c. c && true) (is_word k low)
+load_fits (Object k) low = ap (λ c. c && true) (object_is_word k low)
 
 pub second_fits : (a : Operand) → OperandFits a → in_profile (loads_to 14 a) ≡ true
 second_fits (Constant v) low =
     elim (is_constant v) as (λ c. is_constant v ≡ c → in_profile (by_source c v 14) ≡ true) [
       | true ↦ λ e. ap (λ c. c && true && true && true && true && true && (true && true)) e
-      | false ↦ λ e. ap (λ c. c && true) (number v low)
+      | false ↦ λ e. ap (λ c. c && true) (is_word v low)
     ] refl
-second_fits (Object k) low = ap (λ c. c && true) (is_word k low)
+second_fits (Object k) low = ap (λ c. c && true) (object_is_word k low)
 
 -- ---- A store
 
 pub store_does : (input : List ℕ) (to : ℕ) (s : State) → to < 7680 → done input (stores to) s ≡ record s { fram = set_at s.fram (word_of to) (s.reg 15) }
 store_does input to s low =
-    let there : done input (stores to) s ≡ record s { fram = set_at s.fram (address_of to / 2) (s.reg 15) } =
-    ap (λ g. written_in g s (address_of to) (s.reg 15)) (in_fram to low) in
-    there ∙ ap (λ h. record s { fram = set_at s.fram h (s.reg 15) }) (half_of to)
+    written_in_fram s (address_of to) (s.reg 15) (object_at to low).inside ∙ ap (λ h. record s { fram = set_at s.fram h (s.reg 15) }) (half_of to)
 
 pub store_puts : (input : List ℕ) (to : ℕ) (s : State) → to < 7680 → put_by input (stores to) s ≡ None
-store_puts input to s low = ap (λ g. put_in g (address_of to) (s.reg 15)) (in_fram to low)
+store_puts input to s low = puts_none_at (address_of to) (s.reg 15) Fram (object_at to low).inside
 
 pub store_allowed : (to : ℕ) (s : State) → to < 7680 → access_fault s (stores to) ≡ None
-store_allowed to s low =
-    ap (λ c. if c then Some Odd else fault_in (region (address_of to)) ByMove false (address_of to)) (is_even to)
-    ∙ ap (λ g. fault_in g ByMove false (address_of to)) (in_fram to low)
+store_allowed to s low = word_allowed ByMove (address_of to) Fram (object_at to low)
 
 pub store_fits : (to : ℕ) → to < 7680 → in_profile (stores to) ≡ true
-store_fits to low = is_word to low
+store_fits to low = object_is_word to low
 
 -- ---- Templates are of the profile
 

@@ -6,14 +6,13 @@ use Rattle.msp430_isa.specs.Encoding.{length_of, words_of}
 use Rattle.msp430_isa.specs.Profile.{in_profile}
 use Rattle.msp430_machine.specs.State.{State, set_at, input_word}
 use Rattle.msp430_machine.specs.Access.{access_fault}
-use Rattle.msp430_machine.specs.Cost.{cost}
+use Rattle.msp430_machine.specs.Cost.{cost, any_state}
 use Rattle.msp430_machine.specs.Execution.{done, put_by}
 use Rattle.msp430_machine.specs.Steps.{Does, next, begun}
 use Rattle.power_core.specs.Runs.{Event, Go, Trail}
 use Rattle.power_core.proofs.Covers.{Covers, cut, extended}
 use Rattle.power_core.proofs.Points.{Rich, Setting, Place, At, onto, covers_at}
 use Rattle.power_core.proofs.Stands.{WordsAt, words_front, words_back, words_length, next_is}
-use Rattle.emit_layout.specs.Need.{any_state}
 use Rattle.emit_layout.specs.Operations.{Operand, Operation, Copy, Add, Input, Output, template, OperandFits, OperationFits}
 use Rattle.emit_layout.proofs.Performing.{Store, word_of, operand_value, performed}
 use Rattle.emit_layout.proofs.Instructions.{puts}

@@ -2,7 +2,8 @@
 use Rattle.std.proofs.Common.{◌≡◌, ℕ, ◌+◌, ◌-◌, ◌*◌, ◌/◌, ◌%◌, ◌≤◌, true, false, List, [], ◌∷◌, sym, ap, ◌∙◌, subst, arith}
 use Rattle.std.specs.Prelude.{◌==◌, if◌then◌else◌}
 use Rattle.std.proofs.lemmas.Bool.Decides.{nat_tests}
-use Rattle.msp430_machine.specs.Addresses.{Code, region}
+use Rattle.msp430_machine.specs.declared.addresses.Region.TheVariants.{Code}
+use Rattle.msp430_machine.specs.Addresses.{region}
 use Rattle.msp430_machine.specs.State.{State}
 use Rattle.msp430_machine.specs.Memory.{word_in, word_at, byte_at}
 use Rattle.msp430_machine.specs.First.{HoldsBytes}

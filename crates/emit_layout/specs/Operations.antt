@@ -6,7 +6,7 @@ use Rattle.msp430_isa.specs.declared.instr.Dst.TheVariants.{Reg as ToReg, Abs as
 use Rattle.msp430_isa.specs.declared.instr.TwoOp.TheVariants.{Add as ADD}
 use Rattle.msp430_isa.specs.declared.instr.Instr.{Instr}
 use Rattle.msp430_isa.specs.declared.instr.Instr.TheVariants.{Two}
-use Rattle.msp430_machine.specs.Addresses.{in_port, out_port}
+use Rattle.msp430_machine.specs.Addresses.{in_port, out_port, fram_start}
 use Rattle.straight_programs.specs.declared.program.Part.{Part}
 use Rattle.straight_programs.specs.declared.program.Part.TheVariants.{Name, Unsigned}
 use Rattle.straight_programs.specs.declared.program.Expression.{Expression}
@@ -109,7 +109,7 @@ OperationsFit (op ∷ ops) = OperationFits op × OperationsFit ops
 
 -- objects stand from 0x4400 on
 abbrev pub data_start : ℕ
-data_start = 0x4400
+data_start = fram_start
 
 abbrev pub address_of : ℕ → ℕ
 address_of k = data_start + 2 * k

@@ -7,20 +7,7 @@ ghost use Rattle.emit_layout.specs.Layout.{bytes_of};
 use crate::bytes::put_words;
 use base_io::Memory;
 use msp430_isa::{Cond, Dst, Instr, Src, TwoOp, encode};
-
-pub const GATE: u16 = 0x1800;
-
-pub const RESUME: u16 = 0x1802;
-
-pub const SAVED_SP: u16 = 0x1804;
-
-pub const IN: u16 = 0x0F00;
-
-pub const OUT: u16 = 0x0F02;
-
-pub const END: u16 = 0x0F04;
-
-pub const TRAP: u16 = 0x0F06;
+pub use msp430_machine::{END, GATE, IN, OUT, RESUME, SAVED_SP, TRAP};
 
 pub fn two(op: TwoOp, src: Src, dst: Dst) -> Instr
     ensures { result ≡ Instr.Two op false src dst }

@@ -7,13 +7,14 @@ use crate::code::{IN, OUT, constant, put_instructions, two};
 use crate::operation::{Operand, Operation};
 use base_io::Memory;
 use msp430_isa::{Dst, Instr, Src, TwoOp};
+use msp430_machine::FRAM_START;
 
 /// Where an object stands.
 pub fn address_of(object: u16) -> u16
     requires low { object < 7680 }
     ensures { result ≡ address_of object }
 {
-    0x4400 + 2 * object
+    FRAM_START + 2 * object
 }
 
 /// Where an instruction takes an operand from.

@@ -1,9 +1,11 @@
 ghost use Rattle.std.specs.Prelude.{◌≡◌, ◌≤◌, ◌<◌, [], ◌∷◌, length, IfOk};
 ghost use Rattle.ti_txt.specs.Bytes.{blocks_of};
+ghost use Rattle.msp430_machine.specs.Addresses.{gate, code_start, reset_vector};
 ghost use Rattle.emit_layout.specs.Layout.{bytes_of};
 
 use crate::bytes::put_words;
 use base_io::Memory;
+use msp430_machine::{CODE_START, GATE, RESET_VECTOR};
 use std::alloc::Global;
 use ti_txt::{Image, Segment};
 
@@ -29,20 +31,20 @@ pub fn image_of(
     requires vector { length vector.items ≡ 2 }
     requires code { (0 < length code.items) × (length code.items ≤ 0x7F00) }
     ensures { IfOk result (λ image. blocks_of image ≡
-        record { start = 0x1800; bytes = system.items } ∷ record { start = 0x8000; bytes = code.items }
-        ∷ record { start = 0xFFFE; bytes = vector.items } ∷ []) }
+        record { start = gate; bytes = system.items } ∷ record { start = code_start; bytes = code.items }
+        ∷ record { start = reset_vector; bytes = vector.items } ∷ []) }
 {
     let segments = [
         Segment {
-            start: 0x1800,
+            start: GATE,
             bytes: system,
         },
         Segment {
-            start: 0x8000,
+            start: CODE_START,
             bytes: code,
         },
         Segment {
-            start: 0xFFFE,
+            start: RESET_VECTOR,
             bytes: vector,
         },
     ];

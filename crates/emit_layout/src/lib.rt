@@ -3,7 +3,6 @@
 
 mod bytes;
 mod code;
-mod costs;
 mod emitting;
 mod image;
 mod need;

@@ -1,11 +1,20 @@
-ghost use Rattle.std.specs.Prelude.{◌≡◌, ◌≤◌, [], ◌∷◌};
+ghost use Rattle.std.specs.Prelude.{◌≡◌, ◌≤◌, [], ◌∷◌, false};
+ghost use Rattle.msp430_machine.specs.Cost.{instruction_cost};
 ghost use Rattle.emit_layout.specs.Code.{finish, move};
 ghost use Rattle.emit_layout.specs.Need.{cost_of, sleep_cost, wake_cost};
 
-use crate::code::{END, GATE, RESUME, SAVED_SP, constant};
-use crate::costs::two_cost;
+use crate::code::{END, GATE, RESUME, SAVED_SP, constant, two};
 use board_table::Board;
-use msp430_isa::{Dst, Src, TwoOp};
+use msp430_isa::{Cond, Dst, Instr, Src, TwoOp};
+use msp430_machine::instruction_cost;
+
+/// What a word instruction of two operands costs, in energy units.
+pub fn two_cost(b: &Board, op: TwoOp, src: Src, dst: Dst) -> u64
+    ensures cost { result ≡ instruction_cost b.now (Instr.Two op false src dst) }
+    ensures small { result ≤ 7000000 }
+{
+    instruction_cost(b, two(op, src, dst))
+}
 
 fn move_cost(b: &Board, src: Src, dst: Dst) -> u64
     ensures cost { result ≡ cost_of b.now (move src dst ∷ []) }
@@ -20,7 +29,13 @@ pub fn wake_cost(b: &Board) -> u64
     ensures small { result ≤ 35000000 }
 {
     let test = two_cost(b, TwoOp::Cmp, Src::Short(1), Dst::Abs(GATE));
-    let jump = b.core.jump + b.access.fetch;
+    let jump = instruction_cost(
+        b,
+        Instr::Jump {
+            on: Cond::Jne,
+            words: 4,
+        },
+    );
     let stack = move_cost(b, Src::Abs(SAVED_SP), Dst::Reg(1));
     let go = move_cost(b, Src::Abs(RESUME), Dst::Reg(0));
     let close = move_cost(b, Src::Short(0), Dst::Abs(GATE));

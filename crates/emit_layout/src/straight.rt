@@ -12,6 +12,7 @@ use crate::emitting::put_operation;
 use crate::image::{FIRST_RESUME, image_of, words_in};
 use crate::operation::{Operand, Operation};
 use base_io::Memory;
+use msp430_machine::CODE_START;
 use std::alloc::Global;
 use straight_programs::{Expression, Part, Statement};
 use ti_txt::Image;
@@ -22,9 +23,9 @@ pub fn straight_image(alloc: Global, statements: &[Statement]) -> Result<Image, 
     requires few { sum_by statement_operations statements.now ≤ 255 }
     ensures blocks { IfOk result (λ image. blocks_of image ≡ straight_blocks statements.now) }
 {
-    let system = words_in(alloc, &[1, FIRST_RESUME, 0x8000])?;
+    let system = words_in(alloc, &[1, FIRST_RESUME, CODE_START])?;
     let code = code_of(alloc, statements)?;
-    let vector = words_in(alloc, &[0x8000])?;
+    let vector = words_in(alloc, &[CODE_START])?;
     image_of(alloc, system, code, vector)
 }
 

@@ -6,9 +6,8 @@ ghost use Rattle.emit_layout.specs.Operations.{OperandFits, OperationFits, addre
 ghost use Rattle.emit_layout.specs.Straight.{alone, straight_need};
 
 use crate::code::{IN, OUT};
-use crate::costs::two_cost;
 use crate::emitting::{address_of, source_of};
-use crate::need::{finish_cost, sleep_cost, wake_cost};
+use crate::need::{finish_cost, sleep_cost, two_cost, wake_cost};
 use crate::operation::{Operand, Operation};
 use crate::straight::{operand_of, part_operand};
 use board_table::Board;

@@ -1,12 +1,12 @@
 //! From words to the instruction that they spell.
 
 ghost use Rattle.std.specs.Prelude.{◌≡◌, ◌<◌, ◌≤◌, ℕ, Option, length, slice_index, IfOk, IfErr};
-ghost use Rattle.msp430_isa.specs.Fields.{source_words, destination_words};
-ghost use Rattle.msp430_isa.specs.Encoding.{length_of as length_of_lem};
+ghost use Rattle.msp430_isa.specs.Fields.{source_words};
 ghost use Rattle.msp430_isa.specs.Spelled.{Spells};
 ghost use Rattle.msp430_isa.specs.Decoding.{two_op_at as two_op_at_lem, one_op_at as one_op_at_lem, cond_at as cond_at_lem, offset_at as offset_at_lem, source_at as source_at_lem, destination_at as destination_at_lem, behind as behind_lem, jump_at as jump_at_lem, one_at as one_at_lem, two_at as two_at_lem, table_at as table_at_lem, instruction_at as instruction_at_lem};
 
 use crate::instr::{Cond, Dst, Instr, OneOp, Src, TwoOp};
+use crate::length::length_of;
 use crate::profile::is_allowed;
 use crate::words::NotInstr;
 
@@ -34,17 +34,6 @@ fn word_at(words: &[u16], at: usize) -> u16
     ensures { result ≡ slice_index words.now at }
 {
     if at < words.len() { words[at] } else { 0 }
-}
-
-fn length_of(i: Instr) -> u8
-    ensures value { result ≡ length_of_lem i }
-    ensures few { result ≤ 3 }
-{
-    match i {
-        Instr::Two { src, dst, .. } => 1 + source_length(src) + destination_length(dst),
-        Instr::One { src, .. } => 1 + source_length(src),
-        Instr::Jump { .. } => 1,
-    }
 }
 
 fn instruction_at(w: u16, x: u16, y: u16) -> Option<Instr>
@@ -195,25 +184,5 @@ fn behind(src: Src, x: u16, y: u16) -> u16
     match src {
         Src::Index(_, _) | Src::Abs(_) | Src::Imm(_) => y,
         Src::Reg(_) | Src::At(_) | Src::AtPlus(_) | Src::Short(_) => x,
-    }
-}
-
-fn source_length(src: Src) -> u8
-    ensures value { result ≡ length (source_words src) }
-    ensures few { result ≤ 1 }
-{
-    match src {
-        Src::Index(_, _) | Src::Abs(_) | Src::Imm(_) => 1,
-        Src::Reg(_) | Src::At(_) | Src::AtPlus(_) | Src::Short(_) => 0,
-    }
-}
-
-fn destination_length(dst: Dst) -> u8
-    ensures value { result ≡ length (destination_words dst) }
-    ensures few { result ≤ 1 }
-{
-    match dst {
-        Dst::Reg(_) => 0,
-        Dst::Index(_, _) | Dst::Abs(_) => 1,
     }
 }

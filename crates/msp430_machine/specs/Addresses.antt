@@ -1,5 +1,9 @@
--- What stands at which address: the memory map of the MSP430FR5969, and this profile's ports and words.
+-- What stands at which address: the memory map of the MSP430FR5969, and this profile's ports and words. The code has the
+-- same names in src/addresses.rt.
 use Rattle.std.specs.Prelude.{ℕ, nat_lt, if◌then◌else◌}
+-- what an address belongs to
+pub use Rattle.msp430_machine.specs.declared.addresses.Region.{Region}
+pub use Rattle.msp430_machine.specs.declared.addresses.Region.TheVariants.{Ports, Sram, Fram, Code, Empty}
 
 -- an input word is read here, and words written here are put, or end the program, or trap
 abbrev pub in_port : ℕ
@@ -28,32 +32,46 @@ saved_sp = 0x1804
 abbrev pub reset_vector : ℕ
 reset_vector = 0xFFFE
 
--- where memories begin, and where instructions end
+-- ---- Where regions begin, and where they end: the first address behind them. FRAM goes on from its start to the code.
+
+abbrev pub ports_start : ℕ
+ports_start = 0x0F00
+
+abbrev pub ports_end : ℕ
+ports_end = 0x0F08
+
+-- information FRAM
+abbrev pub info_start : ℕ
+info_start = 0x1800
+
+abbrev pub info_end : ℕ
+info_end = 0x1A00
+
 abbrev pub sram_start : ℕ
 sram_start = 0x1C00
 
+abbrev pub sram_end : ℕ
+sram_end = 0x2400
+
+abbrev pub fram_start : ℕ
+fram_start = 0x4400
+
+-- code goes on to the end of memory, and no instruction may write there
 abbrev pub code_start : ℕ
 code_start = 0x8000
 
+-- no word of an instruction lies here or above
 abbrev pub fetch_end : ℕ
 fetch_end = 0xFF80
 
--- Fram is 0x1800 to 0x19FF and 0x4400 to 0x7FFF, and Code is 0x8000 to 0xFFFF, which no instruction may write
-pub data Region : Type 0 where
-  Ports : Region
-  Sram : Region
-  Fram : Region
-  Code : Region
-  Empty : Region
-
 abbrev pub region : ℕ → Region
 region a =
-    if nat_lt a 0x0F00 then Empty
-    else if nat_lt a 0x0F08 then Ports
-    else if nat_lt a 0x1800 then Empty
-    else if nat_lt a 0x1A00 then Fram
-    else if nat_lt a 0x1C00 then Empty
-    else if nat_lt a 0x2400 then Sram
-    else if nat_lt a 0x4400 then Empty
-    else if nat_lt a 0x8000 then Fram
+    if nat_lt a ports_start then Empty
+    else if nat_lt a ports_end then Ports
+    else if nat_lt a info_start then Empty
+    else if nat_lt a info_end then Fram
+    else if nat_lt a sram_start then Empty
+    else if nat_lt a sram_end then Sram
+    else if nat_lt a fram_start then Empty
+    else if nat_lt a code_start then Fram
     else Code

@@ -5,6 +5,7 @@ ghost use Rattle.msp430_machine.specs.Addresses.{Ports};
 ghost use Rattle.msp430_machine.specs.Access.{may_use_port as may_use_port_lem, code_fault as code_fault_lem, fault_in, fault_at as fault_at_lem, fault_of as fault_of_lem, first_of as first_of_lem, source_fault as source_fault_lem, destination_fault as destination_fault_lem, one_fault as one_fault_lem, access_fault as access_fault_lem};
 ghost use Rattle.msp430_machine.specs.Views.{state_of, operand_of, purpose_of, HasSource, HasDestination, HasOperand, CanExecute};
 
+use crate::addresses::{END, IN, OUT, Region, TRAP, region_of};
 use crate::answer::Why;
 use crate::machine::Machine;
 use crate::operand::Operand;
@@ -23,8 +24,8 @@ fn may_use_port(purpose: Purpose, byte: bool, address: u16) -> bool
     ensures { result ≡ may_use_port_lem (purpose_of purpose) byte address }
 {
     match purpose {
-        Purpose::AsSource => !byte && address == 0x0F00,
-        Purpose::ByMove => !byte && (address == 0x0F02 || address == 0x0F04 || address == 0x0F06),
+        Purpose::AsSource => !byte && address == IN,
+        Purpose::ByMove => !byte && (address == OUT || address == END || address == TRAP),
         Purpose::AsDestination | Purpose::ByOther => false,
     }
 }
@@ -54,11 +55,11 @@ fn fault_at(purpose: Purpose, byte: bool, address: u16) -> Option<Why>
     if !byte && address % 2 == 1 {
         return Some(Why::Odd);
     }
-    match address {
-        0x0F00..0x0F08 => port_fault(purpose, byte, address),
-        0x1800..0x1A00 | 0x1C00..0x2400 | 0x4400..0x8000 => None,
-        0x8000.. => code_fault(purpose),
-        _ => Some(Why::Unmapped),
+    match region_of(address) {
+        Region::Ports => port_fault(purpose, byte, address),
+        Region::Sram | Region::Fram => None,
+        Region::Code => code_fault(purpose),
+        Region::Empty => Some(Why::Unmapped),
     }
 }
 

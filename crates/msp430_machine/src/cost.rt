@@ -1,25 +1,47 @@
 //! What an instruction costs.
 
-ghost use Rattle.std.specs.Prelude.{◌≡◌, ◌+◌, ◌*◌, ◌≤◌, ◌<◌, ℕ, length};
+ghost use Rattle.std.specs.Prelude.{◌≡◌, ◌+◌, ◌*◌, ◌≤◌, ◌<◌, ℕ, IsTrue};
 ghost use Rattle.msp430_isa.specs.Encoding.{length_of as length_of_lem};
-ghost use Rattle.msp430_isa.specs.Fields.{source_words, destination_words};
-ghost use Rattle.msp430_machine.specs.Cost.{read_cost as read_cost_lem, write_cost as write_cost_lem, two_class as two_class_lem, destination_cost as destination_cost_lem, one_class as one_class_lem, one_write_cost as one_write_cost_lem, cost as cost_lem};
+ghost use Rattle.msp430_machine.specs.State.{State};
+ghost use Rattle.msp430_machine.specs.Operands.{source, destination};
+ghost use Rattle.msp430_machine.specs.Cost.{read_cost_in as read_cost_in_lem, write_cost_in as write_cost_in_lem, read_cost as read_cost_lem, write_cost as write_cost_lem, two_class as two_class_lem, destination_cost as destination_cost_lem, one_class as one_class_lem, one_written as one_written_lem, from_of as from_of_lem, to_of as to_of_lem, cost_by as cost_by_lem, cost as cost_lem, any_state, instruction_cost as instruction_cost_lem, is_fixed};
 ghost use Rattle.msp430_machine.specs.Views.{state_of, operand_of, CanExecute};
 
+use crate::addresses::{Region, region_of};
 use crate::arith::{reads_destination, writes_destination};
 use crate::machine::Machine;
 use crate::operand::Operand;
 use board_table::Board;
-use msp430_isa::{Dst, Instr, OneOp, Src, TwoOp};
+use msp430_isa::{Dst, Instr, OneOp, Src, TwoOp, length_of};
+
+fn read_cost_in(board: &Board, region: Region) -> u64
+    ensures value { result ≡ read_cost_in_lem board.now region }
+    ensures small { result ≤ 1000000 }
+{
+    match region {
+        Region::Sram => board.access.sram_read,
+        Region::Ports => board.access.port_read,
+        Region::Fram | Region::Code | Region::Empty => board.access.fram_read,
+    }
+}
+
+fn write_cost_in(board: &Board, region: Region) -> u64
+    ensures value { result ≡ write_cost_in_lem board.now region }
+    ensures small { result ≤ 1000000 }
+{
+    match region {
+        Region::Sram => board.access.sram_write,
+        Region::Ports => board.access.port_write,
+        Region::Fram | Region::Code | Region::Empty => board.access.fram_write,
+    }
+}
 
 fn read_cost(board: &Board, operand: Operand) -> u64
     ensures value { result ≡ read_cost_lem board.now (operand_of operand) }
     ensures small { result ≤ 1000000 }
 {
     match operand {
-        Operand::InMemory(0x0F00..0x0F08) => board.access.port_read,
-        Operand::InMemory(0x1C00..0x2400) => board.access.sram_read,
-        Operand::InMemory(_) => board.access.fram_read,
+        Operand::InMemory(address) => read_cost_in(board, region_of(address)),
         Operand::Constant(_) | Operand::InRegister(_) => 0,
     }
 }
@@ -29,9 +51,7 @@ fn write_cost(board: &Board, operand: Operand) -> u64
     ensures small { result ≤ 1000000 }
 {
     match operand {
-        Operand::InMemory(0x0F00..0x0F08) => board.access.port_write,
-        Operand::InMemory(0x1C00..0x2400) => board.access.sram_write,
-        Operand::InMemory(_) => board.access.fram_write,
+        Operand::InMemory(address) => write_cost_in(board, region_of(address)),
         Operand::Constant(_) | Operand::InRegister(_) => 0,
     }
 }
@@ -74,38 +94,6 @@ fn destination_cost(board: &Board, op: TwoOp, d: Operand) -> u64
     reading + writing
 }
 
-fn source_length(src: Src) -> u16
-    ensures value { result ≡ length (source_words src) }
-    ensures small { result ≤ 1 }
-{
-    match src {
-        Src::Index(_, _) | Src::Abs(_) | Src::Imm(_) => 1,
-        Src::Reg(_) | Src::At(_) | Src::AtPlus(_) | Src::Short(_) => 0,
-    }
-}
-
-fn destination_length(dst: Dst) -> u16
-    ensures value { result ≡ length (destination_words dst) }
-    ensures small { result ≤ 1 }
-{
-    match dst {
-        Dst::Index(_, _) | Dst::Abs(_) => 1,
-        Dst::Reg(_) => 0,
-    }
-}
-
-/// How many words an instruction has.
-pub fn length_of(instr: Instr) -> u16
-    ensures value { result ≡ length_of_lem instr }
-    ensures small { result ≤ 3 }
-{
-    match instr {
-        Instr::Two { src, dst, .. } => 1 + source_length(src) + destination_length(dst),
-        Instr::One { src, .. } => 1 + source_length(src),
-        Instr::Jump { .. } => 1,
-    }
-}
-
 fn fetch_cost(board: &Board, instr: Instr) -> u64
     ensures value { result ≡ board.now.access.fetch * length_of_lem instr }
     ensures small { result ≤ 3000000 }
@@ -113,40 +101,124 @@ fn fetch_cost(board: &Board, instr: Instr) -> u64
     board.access.fetch * length_of(instr) as u64
 }
 
+/// What an instruction costs, in energy units, whose source is `from` and whose destination is `to`. An instruction of one
+/// operand writes to `to`: PUSH and CALL to the stack, the others to their operand. A jump has neither.
+pub fn cost_by(board: &Board, instr: Instr, from: Operand, to: Operand) -> u64
+    ensures cost { result ≡ cost_by_lem board.now instr (operand_of from) (operand_of to) }
+    ensures small { result ≤ 7000000 }
+{
+    match instr {
+        Instr::Two { op, .. } => {
+            let class = two_class(board, op);
+            let fetched = fetch_cost(board, instr);
+            class + fetched + read_cost(board, from) + destination_cost(board, op, to)
+        }
+        Instr::One { op, .. } => {
+            let class = one_class(board, op);
+            let fetched = fetch_cost(board, instr);
+            class + fetched + read_cost(board, from) + write_cost(board, to)
+        }
+        Instr::Jump { .. } => board.core.jump + board.access.fetch,
+    }
+}
+
 impl Machine {
-    fn one_write_cost(&self, board: &Board, op: OneOp, v: Operand) -> u64
-        ensures value { result ≡ one_write_cost_lem board.now op (state_of self.now) (operand_of v) }
-        ensures small { result ≤ 1000000 }
+    fn one_written(&self, op: OneOp, v: Operand) -> Operand
+        ensures { operand_of result ≡ one_written_lem op (state_of self.now) (operand_of v) }
     {
         match op {
-            OneOp::Push | OneOp::Call => write_cost(board, Operand::InMemory(self.pushed_at())),
-            _ => write_cost(board, v),
+            OneOp::Push | OneOp::Call => Operand::InMemory(self.pushed_at()),
+            _ => v,
+        }
+    }
+
+    fn from_of(&self, instr: Instr) -> Operand
+        requires { CanExecute instr }
+        ensures { operand_of result ≡ from_of_lem (state_of self.now) instr }
+    {
+        match instr {
+            Instr::Two { src, .. } | Instr::One { src, .. } => self.source(src),
+            Instr::Jump { .. } => Operand::Constant(0),
+        }
+    }
+
+    fn to_of(&self, instr: Instr) -> Operand
+        requires { CanExecute instr }
+        ensures { operand_of result ≡ to_of_lem (state_of self.now) instr }
+    {
+        match instr {
+            Instr::Two { dst, .. } => self.destination(dst),
+            Instr::One { op, src, .. } => self.one_written(op, self.source(src)),
+            Instr::Jump { .. } => Operand::Constant(0),
         }
     }
 
     /// What an instruction costs here, in energy units.
     pub(crate) fn cost(&self, board: &Board, instr: Instr) -> u64
         requires { CanExecute instr }
-        ensures value { result ≡ cost_lem board.now (state_of self.now) instr }
-        ensures small { result ≤ 10000000 }
+        ensures { result ≡ cost_lem board.now (state_of self.now) instr }
     {
-        match instr {
-            Instr::Two { op, src, dst, .. } => {
-                let class = two_class(board, op);
-                let fetched = fetch_cost(board, instr);
-                let read = read_cost(board, self.source(src));
-                class + fetched + read + destination_cost(board, op, self.destination(dst))
-            }
-            Instr::One { op, src, .. } => {
-                let class = one_class(board, op);
-                let fetched = fetch_cost(board, instr);
-                let operand = self.source(src);
-                class
-                    + fetched
-                    + read_cost(board, operand)
-                    + self.one_write_cost(board, op, operand)
-            }
-            Instr::Jump { .. } => board.core.jump + board.access.fetch,
-        }
+        cost_by(board, instr, self.from_of(instr), self.to_of(instr))
     }
+}
+
+// ---- By the words alone
+
+fn fixed_source(src: Src) -> Operand
+    ensures { operand_of result ≡ source any_state src }
+{
+    match src {
+        Src::Reg(r) => Operand::InRegister(r),
+        Src::Index(_, address) | Src::Abs(address) => Operand::InMemory(address),
+        Src::At(_) | Src::AtPlus(_) => Operand::InMemory(0),
+        Src::Imm(v) | Src::Short(v) => Operand::Constant(v),
+    }
+}
+
+fn fixed_destination(dst: Dst) -> Operand
+    ensures { operand_of result ≡ destination any_state dst }
+{
+    match dst {
+        Dst::Reg(r) => Operand::InRegister(r),
+        Dst::Index(_, address) | Dst::Abs(address) => Operand::InMemory(address),
+    }
+}
+
+fn fixed_from(instr: Instr) -> Operand
+    ensures { operand_of result ≡ from_of_lem any_state instr }
+{
+    match instr {
+        Instr::Two { src, .. } | Instr::One { src, .. } => fixed_source(src),
+        Instr::Jump { .. } => Operand::Constant(0),
+    }
+}
+
+fn fixed_written(op: OneOp, v: Operand) -> Operand
+    ensures { operand_of result ≡ one_written_lem op any_state (operand_of v) }
+{
+    match op {
+        OneOp::Push | OneOp::Call => Operand::InMemory(0xFFFE),
+        _ => v,
+    }
+}
+
+fn fixed_to(instr: Instr) -> Operand
+    ensures { operand_of result ≡ to_of_lem any_state instr }
+{
+    match instr {
+        Instr::Two { dst, .. } => fixed_destination(dst),
+        Instr::One { op, src, .. } => fixed_written(op, fixed_source(src)),
+        Instr::Jump { .. } => Operand::Constant(0),
+    }
+}
+
+/// What an instruction costs, in energy units, where each register that an address is made of counts as 0. An instruction
+/// that makes no address of a register costs this in each state.
+#[tactic(auto, using(crate::proofs::Costs::fixed_cost))]
+pub fn instruction_cost(board: &Board, instr: Instr) -> u64
+    ensures cost { result ≡ instruction_cost_lem board.now instr }
+    ensures fixed { IsTrue (is_fixed instr) → (s : State) → result ≡ cost_lem board.now s instr }
+    ensures small { result ≤ 7000000 }
+{
+    cost_by(board, instr, fixed_from(instr), fixed_to(instr))
 }

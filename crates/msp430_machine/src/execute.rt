@@ -8,6 +8,7 @@ ghost use Rattle.msp430_machine.specs.Operands.{source, destination};
 ghost use Rattle.msp430_machine.specs.Execution.{after_source, two_values, two_done, one_done, done, put_to as put_to_lem, put_by_two as put_by_two_lem, put_by};
 ghost use Rattle.msp430_machine.specs.Views.{state_of, operand_of, HasSource, HasDestination, HasOperand, CanExecute};
 
+use crate::addresses::OUT;
 use crate::arith::{
     is_taken, jump_target, one_flags, one_result, two_flags, two_result, writes_destination,
 };
@@ -19,7 +20,7 @@ use msp430_isa::{Cond, Dst, Instr, OneOp, Src, TwoOp};
 fn put_at(address: u16, v: u16) -> Option<u16>
     ensures { result ≡ put_at_lem address v }
 {
-    if address == 0x0F02 { Some(v) } else { None }
+    if address == OUT { Some(v) } else { None }
 }
 
 fn put_to(operand: Operand, v: u16) -> Option<u16>

@@ -9,11 +9,12 @@ ghost use Rattle.msp430_machine.specs.Loading.{IsLoaded, IsZeroBut};
 ghost use Rattle.msp430_machine.specs.Steps.{answer_of};
 ghost use Rattle.msp430_machine.specs.Wakes.{CanWake, IsCold, Wakes, WakesFrom};
 ghost use Rattle.msp430_machine.specs.State.{State, AreWords, Off, Awake, Asleep, Faulted, set_at, register, with_register, status_word, with_status, input_word};
-ghost use Rattle.msp430_machine.specs.Memory.{at_width as at_width_lem, word_at, half, with_half as with_half_lem, value_at, read, after_read, written_in, written, put_at as put_at_lem};
+ghost use Rattle.msp430_machine.specs.Memory.{at_width as at_width_lem, word_at, half, with_half as with_half_lem, value_at, read, after_read, sent_to, written_in, written, put_at as put_at_lem};
 ghost use Rattle.msp430_machine.specs.Operands.{source, destination, incremented, increment as increment_lem, index, pushed_at};
 ghost use Rattle.msp430_machine.specs.Execution.{source_value, after_reading, after_source, destination_value, with_value, pushed, gone_to};
 ghost use Rattle.msp430_machine.specs.Views.{memory, state_of, operand_of, refilled, refilled_from, cold_cells, flags_in, phase_told, HasSource, HasDestination, HasOperand};
 
+use crate::addresses::{CODE_START, END, OUT, Region, SRAM_START, region_of};
 use crate::answer::{Did, Phase, Refill, Why};
 use crate::arith::Flags;
 use crate::load::{bytes_are_small, image_bytes, words_from, zero_words};
@@ -82,7 +83,7 @@ impl Machine {
         bytes_are_small(bytes.as_slice());
         let sram = zero_words(alloc)?;
         let fram = words_from(alloc, bytes.as_slice(), 0, 16384)?;
-        let code = words_from(alloc, bytes.as_slice(), 0x8000, 16384)?;
+        let code = words_from(alloc, bytes.as_slice(), CODE_START as usize, 16384)?;
         Ok(Machine {
             condition: Condition::Off,
             charge: 0,
@@ -288,11 +289,11 @@ impl Machine {
     pub(crate) fn word_at(&self, address: u16) -> u16
         ensures { result ≡ word_at (state_of self.now) address }
     {
-        match address {
-            0x1800..0x1A00 | 0x4400..0x8000 => self.fram[(address / 2) as usize],
-            0x1C00..0x2400 => self.sram[((address - 0x1C00) / 2) as usize],
-            0x8000.. => self.code[((address - 0x8000) / 2) as usize],
-            _ => 0,
+        match region_of(address) {
+            Region::Fram => self.fram[(address / 2) as usize],
+            Region::Sram => self.sram[((address - SRAM_START) / 2) as usize],
+            Region::Code => self.code[((address - CODE_START) / 2) as usize],
+            Region::Ports | Region::Empty => 0,
         }
     }
 
@@ -311,13 +312,22 @@ impl Machine {
         ensures state { state_of self.new ≡ written_in (region address) (state_of self.old) address w }
         ensures taken { self.new.taken ≡ self.old.taken }
     {
+        match region_of(address) {
+            Region::Ports => self.send_to(address, w),
+            Region::Fram => self.fram[(address / 2) as usize] = w,
+            Region::Sram => self.sram[((address - SRAM_START) / 2) as usize] = w,
+            Region::Code | Region::Empty => {}
+        }
+    }
+
+    fn send_to(&mut self, address: u16, w: u16)
+        ensures state { state_of self.new ≡ sent_to (state_of self.old) address w }
+        ensures taken { self.new.taken ≡ self.old.taken }
+    {
         match address {
-            0x0F02 => {}
-            0x0F04 => self.condition = Condition::Ended(w),
-            0x0F00..0x0F08 => self.condition = Condition::Trapped(w),
-            0x1800..0x1A00 | 0x4400..0x8000 => self.fram[(address / 2) as usize] = w,
-            0x1C00..0x2400 => self.sram[((address - 0x1C00) / 2) as usize] = w,
-            _ => {}
+            OUT => {}
+            END => self.condition = Condition::Ended(w),
+            _ => self.condition = Condition::Trapped(w),
         }
     }
 
@@ -386,9 +396,11 @@ impl Machine {
         ensures value { result ≡ read input.now byte (state_of self.now) address }
         ensures small { result < values byte }
     {
-        match address {
-            0x0F00..0x0F08 => at_width(byte, self.next_input(input)),
-            _ => self.value_at(byte, address),
+        match region_of(address) {
+            Region::Ports => at_width(byte, self.next_input(input)),
+            Region::Sram | Region::Fram | Region::Code | Region::Empty => self.value_at(
+                byte, address,
+            ),
         }
     }
 
@@ -423,14 +435,25 @@ impl Machine {
         }
     }
 
+    fn pass_reading_at(&mut self, address: u16)
+        requires { self.old.taken < 2 ^ 63 }
+        ensures state { state_of self.new ≡ after_read (state_of self.old) address }
+        ensures taken { self.new.taken ≤ self.old.taken + 1 }
+    {
+        match region_of(address) {
+            Region::Ports => self.taken += 1,
+            Region::Sram | Region::Fram | Region::Code | Region::Empty => {}
+        }
+    }
+
     fn pass_reading(&mut self, operand: Operand)
         requires { self.old.taken < 2 ^ 63 }
         ensures state { state_of self.new ≡ after_reading (state_of self.old) (operand_of operand) }
         ensures taken { self.new.taken ≤ self.old.taken + 1 }
     {
         match operand {
-            Operand::InMemory(0x0F00..0x0F08) => self.taken += 1,
-            _ => {}
+            Operand::InMemory(address) => self.pass_reading_at(address),
+            Operand::Constant(_) | Operand::InRegister(_) => {}
         }
     }
 

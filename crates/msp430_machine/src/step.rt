@@ -7,11 +7,11 @@ ghost use Rattle.msp430_machine.specs.State.{Awake};
 ghost use Rattle.msp430_machine.specs.Steps.{next, next_decoded as next_decoded_lem, faulted, cut_off as cut_off_lem, executed, stepped_by, stepped, Does};
 ghost use Rattle.msp430_machine.specs.Views.{state_of, next_from, CanExecute};
 
+use crate::addresses::{CODE_START, FETCH_END};
 use crate::answer::{Did, Why};
-use crate::cost::length_of;
 use crate::machine::Machine;
 use board_table::Board;
-use msp430_isa::{Instr, decode};
+use msp430_isa::{Instr, decode, length_of};
 
 // The instruction that begins at w.
 fn instruction_at(w: u16, x: u16, y: u16) -> Option<Instr>
@@ -33,7 +33,7 @@ impl Machine {
         let Some(instr) = found else {
             return Err(Why::Instruction);
         };
-        if self.register(0) as u32 + 2 * length_of(instr) as u32 > 0xFF80 {
+        if self.register(0) as u32 + 2 * length_of(instr) as u32 > FETCH_END as u32 {
             return Err(Why::Fetch);
         }
         match self.access_fault(instr) {
@@ -47,10 +47,10 @@ impl Machine {
         ensures can { IfOk result CanExecute }
     {
         let pc = self.register(0);
-        if pc % 2 != 0 || pc < 0x8000 || pc >= 0xFF80 {
+        if pc % 2 != 0 || pc < CODE_START || pc >= FETCH_END {
             return Err(Why::Fetch);
         }
-        let k = ((pc - 0x8000) / 2) as usize;
+        let k = ((pc - CODE_START) / 2) as usize;
         self.next_decoded(instruction_at(
             self.code_word(k),
             self.code_word(k + 1),
@@ -86,7 +86,7 @@ impl Machine {
         ensures answer { result ≡ (executed input.now instr need (state_of self.old)).answer }
         ensures taken { self.new.taken ≤ self.old.taken + 1 }
     {
-        self.begin(need, length_of(instr));
+        self.begin(need, length_of(instr) as u16);
         let put = self.execute(input, instr);
         self.answer(need, put)
     }

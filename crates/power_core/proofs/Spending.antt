@@ -18,12 +18,14 @@ use Rattle.msp430_isa.specs.Fields.{source_words, destination_words}
 use Rattle.msp430_isa.specs.Encoding.{length_of}
 use Rattle.msp430_isa.specs.Results.{reads_destination, writes_destination, two_flags, two_result, one_flags, one_result, is_taken, jump_target}
 use Rattle.msp430_machine.specs.declared.answer.Did.{Did}
-use Rattle.msp430_machine.specs.Addresses.{Region, Ports, Sram, Fram, Code, Empty, region, out_port, end_port}
+use Rattle.msp430_machine.specs.declared.addresses.Region.{Region}
+use Rattle.msp430_machine.specs.declared.addresses.Region.TheVariants.{Ports, Sram, Fram, Code, Empty}
+use Rattle.msp430_machine.specs.Addresses.{region, out_port, end_port}
 use Rattle.msp430_machine.specs.State.{Phase, Off, Awake, Asleep, Ended, Trapped, Faulted, State, set_at, with_register, with_status}
 use Rattle.msp430_machine.specs.Memory.{sent_to, written_in, written, word_at, with_half, after_read_in}
 use Rattle.msp430_machine.specs.Operands.{Operand, Constant, InRegister, InMemory, source, destination, incremented, pushed_at}
 use Rattle.msp430_machine.specs.Execution.{source_value, after_reading, after_source, with_value, two_values, pushed, gone_to, one_done, done, put_by}
-use Rattle.msp430_machine.specs.Cost.{read_cost_in, write_cost_in, read_cost, write_cost, two_class, destination_cost, one_class, one_write_cost, cost}
+use Rattle.msp430_machine.specs.Cost.{read_cost_in, write_cost_in, read_cost, write_cost, two_class, destination_cost, one_class, one_written, cost}
 use Rattle.msp430_machine.specs.Steps.{Next, Faults, Does, next, answer_by, answer_of, begun, cut_off, executed, stepped_by, stepped}
 use Rattle.power_core.specs.Cores.{is_executed}
 
@@ -151,11 +153,6 @@ one_class_small b PUSH = b.core.push_range.1
 one_class_small b CALL = b.core.call_range.1
 one_class_small b op = b.core.one_range.1
 
-one_write_small : (b : Board) (op : OneOp) (s : State) (place : Operand) → one_write_cost b op s place ≤ 1000000
-one_write_small b PUSH s place = write_small b (InMemory (pushed_at s))
-one_write_small b CALL s place = write_small b (InMemory (pushed_at s))
-one_write_small b op s place = write_small b place
-
 source_short : (src : Src) → length (source_words src) ≤ 1
 source_short (FromReg r) = omega arith
 source_short (FromIndex r x) = omega arith
@@ -179,7 +176,7 @@ cost_small b s (Two op byte src dst) =
     omega (arith, two_class_small b op, words, read_small b (source s src), destination_small b op (destination s dst))
 cost_small b s (One op byte src) =
     let words = product_small b.access.fetch (length_of (One op byte src)) b.access.fetch_range (omega (arith, source_short src)) in
-    omega (arith, one_class_small b op, words, read_small b (source s src), one_write_small b op s (source s src))
+    omega (arith, one_class_small b op, words, read_small b (source s src), write_small b (one_written op s (source s src)))
 cost_small b s (Jump on words) = omega (arith, b.core.jump_range.1, b.access.fetch_range)
 
 -- ---- One step

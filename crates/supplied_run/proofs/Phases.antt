@@ -13,7 +13,9 @@ use Rattle.msp430_isa.specs.declared.instr.Instr.TheVariants.{Two, One, Jump}
 use Rattle.msp430_isa.specs.Results.{writes_destination, two_flags, two_result, one_flags, one_result, is_taken, jump_target}
 use Rattle.msp430_machine.specs.declared.answer.Did.{Did}
 use Rattle.msp430_machine.specs.declared.answer.Did.TheVariants.{Ran, Out, Slept, Ended as DidEnd, Trapped as DidTrap, Short, Fault}
-use Rattle.msp430_machine.specs.Addresses.{Region, Ports, Sram, Fram, Code, Empty, region, out_port, end_port}
+use Rattle.msp430_machine.specs.declared.addresses.Region.{Region}
+use Rattle.msp430_machine.specs.declared.addresses.Region.TheVariants.{Ports, Sram, Fram, Code, Empty}
+use Rattle.msp430_machine.specs.Addresses.{region, out_port, end_port}
 use Rattle.msp430_machine.specs.State.{Phase, Off, Awake, Asleep, Ended, Trapped, Faulted, State, set_at, with_register, with_status, phase_by_status}
 use Rattle.msp430_machine.specs.Memory.{sent_to, written_in, written, word_at, with_half, after_read_in, put_in, put_at}
 use Rattle.msp430_machine.specs.Operands.{Operand, Constant, InRegister, InMemory, source, destination, incremented, pushed_at}

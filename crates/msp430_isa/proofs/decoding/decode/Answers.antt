@@ -13,7 +13,7 @@ returns-then-length-words-clause-spelt c =
     let x : get_or words 1 0 < 65536 = omega arith in
     let y : get_or words 2 0 < 65536 = omega arith in
     let fits : length_of i ≤ length words = omega arith in
-    subst (λ n. Spells words i n) (sym c.length_of-length.ensures.value) (read_is_spelt words i x y read fits)
+    subst (λ n. Spells words i n) (sym c.length_of-length.ensures.length) (read_is_spelt words i x y read fits)
 
 pub returns-then-length-words-clause-every : goal.returns-then-length-words-clause-every
 returns-then-length-words-clause-every c = λ i n s.
