@@ -1,0 +1,4 @@
+pub mod Among
+pub mod Answered
+pub mod Firsts
+pub mod Reached
