@@ -1,4 +1,4 @@
 pub mod Among
-pub mod Answered
 pub mod Firsts
+pub mod OneAnswer
 pub mod Reached

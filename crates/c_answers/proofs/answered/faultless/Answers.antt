@@ -2,7 +2,7 @@ use Rattle.std.proofs.Common.{◌≢◌, subst, List, Some, None}
 use Rattle.c_typing.specs.declared.call_site.CallSite.{CallSite}
 use Rattle.c_typing.specs.declared.type_fault.TypeFault.TheVariants as faults
 use Rattle.c_typing.specs.Programs.{IsFirstCycle}
-use Rattle.c_answers.proofs.Answered.{recursive, accepted, lacking}
+use Rattle.c_answers.proofs.OneAnswer.{recursive, accepted, lacking}
 use Rattle.c_answers.proofs.answered.faultless.Goals as goal
 
 pub returns-in-Ok-Some-clause-refuses : goal.returns-in-Ok-Some-clause-refuses
