@@ -82,7 +82,7 @@ fn finish(state: State) -> Result<Program, TypeFault>
 }
 
 /// The first of these faults.
-#[tactic(auto, using(c_answers::proofs::Firsts::sooner_on, c_answers::proofs::Firsts::none_behind))]
+#[tactic(auto, using(crate::proofs::Firsts::sooner_on, crate::proofs::Firsts::none_behind))]
 fn first_of(faults: &[TypeFault]) -> Option<TypeFault>
     ensures { result ≡ first_faults.first_of faults.now }
 {
