@@ -3,8 +3,8 @@ use Rattle.std.proofs.Common.{◌≡◌, ◌≢◌, List, [], ◌++◌, append-n
 use Rattle.c_parse.specs.declared.raw.RawRule.{RawRule}
 use Rattle.c_parse.specs.declared.raw.RawRule.TheVariants as rule
 use Rattle.c_parse.specs.declared.raw.Raw.TheOpen.{Raw-F}
-use Rattle.c_types.specs.Judged.{Judged, nothing}
-use Rattle.c_types.specs.Programs.{judged_by}
+use Rattle.c_typing.specs.Judged.{Judged, nothing}
+use Rattle.c_typing.specs.Programs.{judged_by}
 
 pub nothing_behind : {A : Type 0} (xs ys : List A) → ys ≡ [] → xs ≡ xs ++ ys
 nothing_behind xs ys e = sym (ap (λ l. xs ++ l) e ∙ append-nil xs)

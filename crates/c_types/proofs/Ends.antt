@@ -1,15 +1,8 @@
 -- The last of several, and a place behind them all.
-use Rattle.std.proofs.Common.{◌≡◌, refl, ap, ℕ, zero, suc, ◌≤◌, List, [], ◌∷◌, ◌++◌, length, map, arith}
+use Rattle.std.proofs.Common.{◌≡◌, refl, ap, ℕ, zero, suc, ◌≤◌, List, [], ◌∷◌, ◌++◌, length, arith}
 use Rattle.std.proofs.Math.ListN.{set}
-use Rattle.c_parse.specs.declared.raw.Raw.{Raw}
 use Rattle.c_tree.specs.declared.tree.BlockItem.{BlockItem, out-BlockItem}
-use Rattle.c_types.specs.Functions.{ends_in_return, is_return_item}
-use Rattle.c_types.specs.Programs.{judged, last_place}
-
-pub last_of : (others : List Raw) (last : Raw) → last_place (map judged (others ++ last ∷ [])) ≡ (judged last).end
-last_of [] last = refl
-last_of (a ∷ []) last = refl
-last_of (a ∷ b ∷ others) last = last_of (b ∷ others) last
+use Rattle.c_typing.specs.Functions.{ends_in_return, is_return_item}
 
 pub ends_in_last : (others : List BlockItem) (last : BlockItem) → ends_in_return (others ++ last ∷ []) ≡ is_return_item (out-BlockItem last)
 ends_in_last [] last = refl

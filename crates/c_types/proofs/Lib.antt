@@ -1,14 +1,2 @@
-pub mod Judging
-pub mod ScopeLemmas
-pub mod Firsts
-pub mod Making
-pub mod ConstantLevels
-pub mod Reached
-pub mod Ends
-pub mod Answered
-pub mod Labels
-pub mod Rules
-pub mod Declarators
-pub mod Among
 pub mod Behind
-pub mod Grouped
+pub mod Ends

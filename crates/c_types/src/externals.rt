@@ -1,20 +1,20 @@
 //! The externals of a file, one after the other (C11 6.9).
 ghost use Rattle.std.specs.Prelude.{◌≡◌, ◌++◌, map, OnOk};
-ghost use Rattle.c_types.specs.Parts.{Makes};
-ghost use Rattle.c_types.specs.Functions as functions;
-ghost use Rattle.c_types.specs.Programs as spec;
-ghost use Rattle.c_types.specs.Programs.{judged};
+ghost use Rattle.c_typing.specs.Parts.{Makes};
+ghost use Rattle.c_typing.specs.Functions as functions;
+ghost use Rattle.c_typing.specs.Programs as spec;
+ghost use Rattle.c_typing.specs.Programs.{judged};
 
 use crate::functions::{external_parts, unstatic};
-use crate::notes::push;
-use crate::state::State;
-use crate::trees::{Fronted, front, is_token, spells, text};
+use c_expressions::notes::push;
+use c_expressions::trees::{Fronted, front, is_token, spells, text};
 use c_parse::{NoMemory, Raw, RawRule};
+use c_typing::State;
 use sqlite_items::Items;
 use std::alloc::Global;
 
 /// A text, or an external of it.
-#[tactic(auto, using(crate::proofs::Judging::judged_leaf, crate::proofs::Judging::judged_node, crate::proofs::Judging::size_node))]
+#[tactic(auto, using(c_typing::proofs::Judging::judged_leaf, c_typing::proofs::Judging::judged_node, c_typing::proofs::Judging::size_node))]
 #[cycle(externals)]
 pub fn external(alloc: Global, raw: &Raw, state: &mut State) -> Result<(), NoMemory>
     ensures { Makes (judged raw.now).external state.old result state.new }
@@ -42,7 +42,7 @@ fn each(alloc: Global, parts: &[Raw], state: &mut State) -> Result<(), NoMemory>
 }
 
 /// The names of the functions that a text defines, behind those that are there.
-#[tactic(auto, using(crate::proofs::Judging::judged_leaf, crate::proofs::Judging::judged_node, crate::proofs::Judging::size_node))]
+#[tactic(auto, using(c_typing::proofs::Judging::judged_leaf, c_typing::proofs::Judging::judged_node, c_typing::proofs::Judging::size_node))]
 #[cycle(defines)]
 pub fn add_defines(alloc: Global, raw: &Raw, done: &mut Items<Items<u8>>) -> Result<(), NoMemory>
     ensures { OnOk result (done.new ≡ done.old ++ (judged raw.now).defines) }

@@ -1,30 +1,28 @@
 //! Functions of the file (C11 6.7.6.3, 6.9.1).
 ghost use Rattle.std.specs.Prelude.{◌≡◌, ◌∷◌, [], None, Some, map, IfOk};
 ghost use Rattle.c_tree.specs.declared.tree.BlockItem.{out-BlockItem};
-ghost use Rattle.c_types.specs.Parts.{Makes, either};
-ghost use Rattle.c_types.specs.Judged.{is_token};
-ghost use Rattle.c_types.specs.Texts as texts;
-ghost use Rattle.c_types.specs.Statements as statements;
-ghost use Rattle.c_types.specs.Declarations as declarations;
-ghost use Rattle.c_types.specs.Expressions as expressions;
-ghost use Rattle.c_types.specs.Programs.{judged};
-ghost use Rattle.c_types.specs.Functions as spec;
+ghost use Rattle.c_typing.specs.Parts.{Makes, either};
+ghost use Rattle.c_typing.specs.Judged.{is_token};
+ghost use Rattle.c_typing.specs.Texts as texts;
+ghost use Rattle.c_typing.specs.Statements as statements;
+ghost use Rattle.c_typing.specs.Declarations as declarations;
+ghost use Rattle.c_typing.specs.Expressions as expressions;
+ghost use Rattle.c_typing.specs.Programs.{judged};
+ghost use Rattle.c_typing.specs.Functions as spec;
 
-use crate::declarations::{add_name, add_object, based, declare_each_global, declare_name, local};
-use crate::meaning::Meaning;
-use crate::notes::{count, note, note_if, push};
 use crate::parameters::{params_of, types_of};
-use crate::scopes::last_and_others;
-use crate::state::{Role, Signature, State};
-use crate::statement_parts::{close_scope, open_scope};
-use crate::statements::items;
-use crate::trees::{Fronted, end, front, is_token, place, spells, text, type_of};
-use crate::type_fault::TypeFault;
-use crate::value::Parameter;
-use crate::values::same_type;
 use base_io::Place;
+use c_expressions::notes::{count, note, note_if, push};
+use c_expressions::trees::{Fronted, end, front, is_token, place, spells, text, type_of};
+use c_expressions::values::same_type;
 use c_parse::{NoMemory, Raw, RawRule};
+use c_statements::declarations::{
+    add_name, add_object, based, declare_each_global, declare_name, local,
+};
+use c_statements::statement_parts::{close_scope, open_scope};
+use c_statements::statements::items;
 use c_tree::{BlockItem, Function, Stmt, StmtKind};
+use c_typing::{Meaning, Parameter, Role, Signature, State, TypeFault, last_and_others};
 use c_values::Ty;
 use sqlite_items::Items;
 use std::alloc::Global;
@@ -53,7 +51,7 @@ fn same_types(a: &[Ty], b: &[Ty]) -> bool
     ys.is_empty()
 }
 
-pub fn same_result(a: Option<Ty>, b: Option<Ty>) -> bool
+fn same_result(a: Option<Ty>, b: Option<Ty>) -> bool
     ensures { result ≡ spec.same_result a b }
 {
     match (a, b) {

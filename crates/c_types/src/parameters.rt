@@ -1,19 +1,19 @@
 //! The parameters of a function (C11 6.7.6.3).
 ghost use Rattle.std.specs.Prelude.{◌≡◌, ◌∷◌, [], ◌++◌, map, IfOk, OnOk, option_to_list};
-ghost use Rattle.c_types.specs.Programs.{judged};
-ghost use Rattle.c_types.specs.Functions as spec;
+ghost use Rattle.c_typing.specs.Programs.{judged};
+ghost use Rattle.c_typing.specs.Functions as spec;
 
-use crate::notes::push;
-use crate::trees::{Fronted, front, place, spells, text, type_of};
-use crate::value::Parameter;
 use base_io::Place;
+use c_expressions::notes::push;
+use c_expressions::trees::{Fronted, front, place, spells, text, type_of};
 use c_parse::{NoMemory, Raw, RawRule};
+use c_typing::Parameter;
 use c_values::Ty;
 use sqlite_items::Items;
 use std::alloc::Global;
 
 /// The parameters of a list of them, behind those that are there.
-#[tactic(auto, using(crate::proofs::Judging::judged_leaf, crate::proofs::Judging::judged_node, crate::proofs::Judging::size_node))]
+#[tactic(auto, using(c_typing::proofs::Judging::judged_leaf, c_typing::proofs::Judging::judged_node, c_typing::proofs::Judging::size_node))]
 #[cycle(params)]
 fn add_params(alloc: Global, raw: &Raw, done: &mut Items<Parameter>) -> Result<(), NoMemory>
     ensures { OnOk result (done.new ≡ done.old ++ (judged raw.now).params) }

@@ -2,14 +2,14 @@
 ghost use Rattle.std.specs.Prelude.{◌≡◌, ◌≢◌, IfOk, IfErr};
 ghost use Rattle.c_tree.specs.declared.tree.Program.{Program};
 ghost use Rattle.sound_programs.specs.SoundPrograms.{IsSound};
-ghost use Rattle.c_types.specs.declared.type_fault.TypeFault.{TypeFault};
-ghost use Rattle.c_types.specs.declared.type_fault.TypeFault.TheVariants as faults;
-ghost use Rattle.c_types.specs.Programs.{Accepts, Refuses};
+ghost use Rattle.c_typing.specs.declared.type_fault.TypeFault.{TypeFault};
+ghost use Rattle.c_typing.specs.declared.type_fault.TypeFault.TheVariants as faults;
+ghost use Rattle.c_typing.specs.Programs.{Accepts, Refuses};
 
-use crate::type_fault::TypeFault;
 use crate::typed_program;
 use c_parse::Raw;
 use c_tree::Program;
+use c_typing::TypeFault;
 use sound_programs::is_sound;
 use std::alloc::Global;
 

@@ -14,9 +14,9 @@ use Rattle.c_parse.specs.declared.raw.Raw.{Raw}
 use Rattle.c_parse.proofs.Reading.{treeless}
 use Rattle.c_parse.proofs.Whole.{same_tree}
 use Rattle.c_tree.specs.declared.tree.Program.{Program}
-use Rattle.c_types.specs.Programs.{Accepts, Refuses, found}
-use Rattle.c_types.specs.declared.type_fault.TypeFault.{TypeFault}
-use Rattle.c_types.specs.declared.type_fault.TypeFault.TheVariants as type
+use Rattle.c_typing.specs.Programs.{Accepts, Refuses, found}
+use Rattle.c_typing.specs.declared.type_fault.TypeFault.{TypeFault}
+use Rattle.c_typing.specs.declared.type_fault.TypeFault.TheVariants as type
 use Rattle.program_texts.specs.declared.fault.ProgramRefusal.{ProgramRefusal}
 use Rattle.program_texts.specs.declared.fault.ProgramFault.{ProgramFault}
 use Rattle.program_texts.specs.declared.fault.ProgramFault.TheVariants.{Refused, Memory}

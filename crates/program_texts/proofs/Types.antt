@@ -1,12 +1,12 @@
 -- A tree has at most one typed program, at most one type fault to be answered, and never both.
 use Rattle.std.proofs.Common.{◌≡◌, ◌<◌, ℕ, List, Option, Some, None, sym, ap, ◌∙◌, inl, inr, arith}
 use Rattle.c_tree.specs.declared.tree.Program.{Program}
-use Rattle.c_types.specs.declared.call_site.CallSite.{CallSite}
-use Rattle.c_types.specs.declared.state.State.{State}
-use Rattle.c_types.specs.declared.type_fault.TypeFault.{TypeFault}
-use Rattle.c_types.specs.Cycles.{IsFirstOnCycle}
-use Rattle.c_types.specs.FirstFaults.{first_of}
-use Rattle.c_types.specs.Programs.{IsFaulty, IsRecursive, IsTyped, LacksMain, main_in, program, recursion_at}
+use Rattle.c_typing.specs.declared.call_site.CallSite.{CallSite}
+use Rattle.c_typing.specs.declared.state.State.{State}
+use Rattle.c_typing.specs.declared.type_fault.TypeFault.{TypeFault}
+use Rattle.c_typing.specs.Cycles.{IsFirstOnCycle}
+use Rattle.c_typing.specs.FirstFaults.{first_of}
+use Rattle.c_typing.specs.Programs.{IsFaulty, IsRecursive, IsTyped, LacksMain, main_in, program, recursion_at}
 
 abbrev number_in : Option ℕ → ℕ
 number_in None = 0

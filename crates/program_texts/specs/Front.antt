@@ -10,9 +10,9 @@ use Rattle.c_parse.specs.declared.fault.ParseFault.{ParseFault}
 use Rattle.c_parse.specs.declared.fault.ParseFault.TheVariants as syntax
 use Rattle.c_parse.specs.declared.raw.Raw.{Raw}
 use Rattle.c_tree.specs.declared.tree.Program.{Program}
-use Rattle.c_types.specs.Programs.{Accepts, Refuses}
-use Rattle.c_types.specs.declared.type_fault.TypeFault.{TypeFault}
-use Rattle.c_types.specs.declared.type_fault.TypeFault.TheVariants as type
+use Rattle.c_typing.specs.Programs.{Accepts, Refuses}
+use Rattle.c_typing.specs.declared.type_fault.TypeFault.{TypeFault}
+use Rattle.c_typing.specs.declared.type_fault.TypeFault.TheVariants as type
 use Rattle.program_texts.specs.declared.fault.ProgramFault.{ProgramFault}
 use Rattle.program_texts.specs.declared.fault.ProgramFault.TheVariants.{Refused, Memory}
 use Rattle.program_texts.specs.declared.fault.ProgramRefusal.TheVariants as refusal

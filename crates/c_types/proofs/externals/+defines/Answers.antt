@@ -1,7 +1,7 @@
 use Rattle.std.proofs.Common.{◌∙◌, ap, map}
-use Rattle.c_types.specs.Judged.{Judged}
-use Rattle.c_types.specs.Programs.{judged}
-use Rattle.c_types.proofs.Judging.{judged_leaf, judged_node}
+use Rattle.c_typing.specs.Judged.{Judged}
+use Rattle.c_typing.specs.Programs.{judged}
+use Rattle.c_typing.proofs.Judging.{judged_leaf, judged_node}
 use Rattle.c_types.proofs.Behind.{nothing_behind, other_defines}
 use Rattle.c_types.proofs.externals.+defines.Goals as goal
 

@@ -1,6 +1,6 @@
 use Rattle.std.proofs.Common.{◌≡◌, ◌+◌, ◌*◌, ◌≤◌, ◌++◌, map, length}
-use Rattle.c_types.specs.Sizes.{size, total}
-use Rattle.c_types.specs.Programs.{judged, all_defined}
+use Rattle.c_typing.specs.Sizes.{size, total}
+use Rattle.c_typing.specs.Programs.{judged, all_defined}
 use Rattle.c_types.proofs.externals.+defines.Given as goal
 
 abbrev pub decreases-add_defines : goal.decreases-add_defines

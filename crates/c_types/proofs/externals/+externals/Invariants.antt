@@ -1,7 +1,7 @@
 use Rattle.std.proofs.Common.{◌≡◌, ◌+◌, ◌*◌, ◌≤◌, map, length}
-use Rattle.c_types.specs.Sizes.{size, total}
-use Rattle.c_types.specs.Programs.{judged, externals}
-use Rattle.c_types.proofs.Making.{Leads}
+use Rattle.c_typing.specs.Sizes.{size, total}
+use Rattle.c_typing.specs.Programs.{judged, externals}
+use Rattle.c_typing.proofs.Making.{Leads}
 use Rattle.c_types.proofs.externals.+externals.Given as goal
 
 abbrev pub decreases-external : goal.decreases-external

@@ -1,6 +1,6 @@
 use Rattle.std.proofs.Common.{◌≡◌, [], length}
-use Rattle.c_types.specs.Functions as spec
-use Rattle.c_types.proofs.Making.{Leads}
+use Rattle.c_typing.specs.Functions as spec
+use Rattle.c_typing.proofs.Making.{Leads}
 use Rattle.c_types.proofs.functions.add_parameters.Given as goal
 
 abbrev pub invariant-loop-p : goal.invariant-loop-p

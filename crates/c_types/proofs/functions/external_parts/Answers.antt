@@ -1,7 +1,7 @@
 use Rattle.std.proofs.Common.{List, subst}
-use Rattle.c_types.specs.Judged.{Judged}
-use Rattle.c_types.specs.Parts.{Makes}
-use Rattle.c_types.specs.Functions as spec
+use Rattle.c_typing.specs.Judged.{Judged}
+use Rattle.c_typing.specs.Parts.{Makes}
+use Rattle.c_typing.specs.Functions as spec
 use Rattle.c_types.proofs.functions.external_parts.Goals as goal
 
 pub returns : goal.returns

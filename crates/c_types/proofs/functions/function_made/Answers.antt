@@ -1,11 +1,11 @@
 use Rattle.std.proofs.Common.{◌∙◌, Option, List}
 use Rattle.c_values.specs.declared.ops.Ty.{Ty}
-use Rattle.c_types.specs.declared.value.Parameter.{Parameter}
-use Rattle.c_types.specs.Parts.{Part, either}
-use Rattle.c_types.specs.Judged.{is_token}
-use Rattle.c_types.specs.Programs.{judged}
-use Rattle.c_types.specs.Functions as spec
-use Rattle.c_types.proofs.Declarators.{makes_same}
+use Rattle.c_typing.specs.declared.value.Parameter.{Parameter}
+use Rattle.c_typing.specs.Parts.{Part, either}
+use Rattle.c_typing.specs.Judged.{is_token}
+use Rattle.c_typing.specs.Programs.{judged}
+use Rattle.c_typing.specs.Functions as spec
+use Rattle.c_statements.proofs.Declarators.{makes_same}
 use Rattle.c_types.proofs.functions.function_made.Goals as goal
 
 pub returns : goal.returns

@@ -1,8 +1,8 @@
 use Rattle.std.proofs.Common.{map, subst}
-use Rattle.c_types.specs.declared.value.Base.{Base}
-use Rattle.c_types.specs.Parts.{Makes}
-use Rattle.c_types.specs.Programs.{judged}
-use Rattle.c_types.specs.Declarations as spec
+use Rattle.c_typing.specs.declared.value.Base.{Base}
+use Rattle.c_typing.specs.Parts.{Makes}
+use Rattle.c_typing.specs.Programs.{judged}
+use Rattle.c_typing.specs.Declarations as spec
 use Rattle.c_types.proofs.functions.objects_typed.Goals as goal
 
 pub returns : goal.returns

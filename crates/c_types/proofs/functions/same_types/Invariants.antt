@@ -1,5 +1,5 @@
 use Rattle.std.proofs.Common.{◌≡◌, length}
-use Rattle.c_types.specs.Functions.{same_types}
+use Rattle.c_typing.specs.Functions.{same_types}
 use Rattle.c_types.proofs.functions.same_types.Given as goal
 
 abbrev pub invariant-loop-x : goal.invariant-loop-x

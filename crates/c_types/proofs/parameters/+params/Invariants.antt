@@ -1,7 +1,7 @@
 use Rattle.std.proofs.Common.{◌≡◌, ◌+◌, ◌*◌, ◌≤◌, ◌++◌, map, length}
-use Rattle.c_types.specs.Sizes.{size, total}
-use Rattle.c_types.specs.Functions as spec
-use Rattle.c_types.specs.Programs.{judged}
+use Rattle.c_typing.specs.Sizes.{size, total}
+use Rattle.c_typing.specs.Functions as spec
+use Rattle.c_typing.specs.Programs.{judged}
 use Rattle.c_types.proofs.parameters.+params.Given as goal
 
 abbrev pub decreases-add_params : goal.decreases-add_params

@@ -1,5 +1,5 @@
 use Rattle.std.proofs.Common.{◌≡◌, ◌++◌, length}
-use Rattle.c_types.specs.Functions as spec
+use Rattle.c_typing.specs.Functions as spec
 use Rattle.c_types.proofs.parameters.types_of.Given as goal
 
 abbrev pub invariant-loop-p : goal.invariant-loop-p

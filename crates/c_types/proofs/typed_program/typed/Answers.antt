@@ -1,9 +1,9 @@
 use Rattle.std.proofs.Common.{◌≡◌, ◌≢◌, subst, IfOk, IfErr}
 use Rattle.c_tree.specs.declared.tree.Program.{Program}
-use Rattle.c_types.specs.declared.type_fault.TypeFault.{TypeFault}
-use Rattle.c_types.specs.declared.type_fault.TypeFault.TheVariants as faults
-use Rattle.c_types.specs.Programs.{IsTyped, IsFaulty}
-use Rattle.c_types.proofs.Answered.{only_program, no_other_fault, only_fault, no_program}
+use Rattle.c_typing.specs.declared.type_fault.TypeFault.{TypeFault}
+use Rattle.c_typing.specs.declared.type_fault.TypeFault.TheVariants as faults
+use Rattle.c_typing.specs.Programs.{IsTyped, IsFaulty}
+use Rattle.c_answers.proofs.OneAnswer.{only_program, no_other_fault, only_fault, no_program}
 use Rattle.c_types.proofs.typed_program.typed.Goals as goal
 
 pub returns-in-Ok-clause-accepts : goal.returns-in-Ok-clause-accepts

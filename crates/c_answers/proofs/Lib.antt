@@ -1,0 +1,4 @@
+pub mod Among
+pub mod Firsts
+pub mod OneAnswer
+pub mod Reached

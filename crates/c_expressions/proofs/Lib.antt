@@ -1,0 +1,2 @@
+pub mod ConstantLevels
+pub mod Ends

@@ -1,0 +1,4 @@
+pub mod Declarators
+pub mod Grouped
+pub mod Labels
+pub mod Rules

@@ -1,0 +1,11 @@
+use Rattle.std.proofs.Common.{◌≡◌, length, map}
+use Rattle.c_typing.specs.Programs.{judged}
+use Rattle.c_typing.specs.Declarations as spec
+use Rattle.c_typing.proofs.Making.{Leads}
+use Rattle.c_statements.proofs.declarations.declare_each_global.Given as goal
+
+abbrev pub invariant-loop-part : goal.invariant-loop-part
+invariant-loop-part l = Leads (spec.declare_each_global l.base (map judged l.parts)) l.initial.state (spec.declare_each_global l.base (map judged l.rest)) l.state
+
+abbrev pub decreases-loop-part : goal.decreases-loop-part
+decreases-loop-part l = length l.rest

@@ -1,0 +1,7 @@
+//! Declarations of objects, statements and the items of blocks.
+#![tactic(auto)]
+
+pub mod declarations;
+pub mod statement_parts;
+pub mod statements;
+mod switches;

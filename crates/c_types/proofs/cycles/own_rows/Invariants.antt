@@ -1,6 +1,0 @@
-use Rattle.std.proofs.Common.{◌≡◌}
-use Rattle.c_types.specs.Rows.{own_rows}
-use Rattle.c_types.proofs.cycles.own_rows.Given as goal
-
-abbrev pub invariant-loop-a : goal.invariant-loop-a
-invariant-loop-a l = l.rows.items ≡ own_rows l.functions l.a

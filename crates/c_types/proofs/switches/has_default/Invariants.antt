@@ -1,9 +1,0 @@
-use Rattle.std.proofs.Common.{length, ◌≡◌}
-use Rattle.c_tree.specs.Nodes.{has_default}
-use Rattle.c_types.proofs.switches.has_default.Given as goal
-
-abbrev pub invariant-loop-label : goal.invariant-loop-label
-invariant-loop-label l = has_default l.initial.rest ≡ has_default l.rest
-
-abbrev pub decreases-loop-label : goal.decreases-loop-label
-decreases-loop-label l = length l.rest

@@ -1,0 +1,16 @@
+pub mod Actions
+pub mod Constants
+pub mod Conversions
+pub mod Cycles
+pub mod Declarations
+pub mod Expressions
+pub mod FirstFaults
+pub mod Functions
+pub mod Judged
+pub mod Kept
+pub mod Parts
+pub mod Programs
+pub mod Scopes
+pub mod Sizes
+pub mod Statements
+pub mod Texts
