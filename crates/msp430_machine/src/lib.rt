@@ -20,6 +20,3 @@ pub use answer::{Did, Phase, Refill, Why};
 pub use cost::{cost_by, instruction_cost};
 pub use machine::Machine;
 pub use operand::Operand;
-
-#[cfg(test)]
-mod tests;

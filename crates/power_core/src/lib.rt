@@ -4,6 +4,3 @@
 mod device;
 
 pub use device::{Core, Event, Seen};
-
-#[cfg(test)]
-mod tests;
