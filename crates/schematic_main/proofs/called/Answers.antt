@@ -2,8 +2,8 @@ use Rattle.std.proofs.Common.{◌≡◌, ◌∙◌, ◌++◌, List, [], ◌∷�
 use Rattle.std.proofs.lemmas.Grind.{flat_map-append}
 use Rattle.std.specs.List.{flat_map}
 use denote.Param.Object.{read_made}
-use Rattle.schematic.proofs.called.Goals as goal
-use Rattle.schematic.proofs.called.OwnLists.{own-1, entry-1-1, at-1-1, same-1-1}
+use Rattle.schematic_main.proofs.called.Goals as goal
+use Rattle.schematic_main.proofs.called.OwnLists.{own-1, entry-1-1, at-1-1, same-1-1}
 
 -- a box that holds no rows changes nothing of the rows
 same_rows : {B R : Type 0} (xs ys : List B) (b : B) (rows : B → List R) → ys ≡ xs ++ b ∷ [] → rows b ≡ [] → flat_map rows ys ≡ flat_map rows xs

@@ -1,7 +1,7 @@
 use Rattle.std.proofs.Common.{◌≡◌, ◌-◌, [], length}
 use Rattle.supply_trace.specs.Boxes.{all_rows}
-use Rattle.schematic.proofs.called.Given as goal
-use Rattle.schematic.proofs.called.OwnLists.{own-1}
+use Rattle.schematic_main.proofs.called.Given as goal
+use Rattle.schematic_main.proofs.called.OwnLists.{own-1}
 
 -- the boxes so far hold no rows
 abbrev pub invariant-loop-supplies : goal.invariant-loop-supplies
