@@ -54,6 +54,9 @@ pub record Sunk : Type 0 where
   pub told : Option Text
   pub faults : ℕ
 
+abbrev pub sunk_of : {K : Type 0} → (K → Option Text) → (K → ℕ) → K → Sunk
+sunk_of told faults k = record { told = told k; faults = faults k }
+
 abbrev pub AllTold : Text → Option Text → Option Text → Type 0
 AllTold line (Some old) (Some new) = new ≡ old ++ line
 AllTold line None None = ⊤

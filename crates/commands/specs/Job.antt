@@ -20,6 +20,9 @@ pub record Seen : Type 0 where
   pub writes : ℕ
   pub bad : Text
 
+abbrev pub seen_of : {S : Type 0} → (S → Option Files) → (S → ℕ) → (S → ℕ) → (S → Text) → S → Seen
+seen_of files reads writes bad s = record { files = files s; reads = reads s; writes = writes s; bad = bad s }
+
 -- ---- What is left
 
 -- nothing was written, and no write failed

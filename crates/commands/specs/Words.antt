@@ -1,9 +1,14 @@
 -- What the words of the command line ask for: a build, a run, a say, or a job that isn't built yet.
-use Rattle.std.specs.Prelude.{◌≡◌, ℕ, List, Option, Some, Bool, true, false}
+use Rattle.std.specs.Prelude.{◌≡◌, ℕ, List, Option, Some, Bool, true, false, map}
+use denote.Bor.{Bor}
 use Rattle.job_parts.specs.Asked.{Request, Task, asked, build, run, say}
 
 abbrev pub Text : Type 0
 Text = List ℕ
+
+-- the words as the call is lent them
+abbrev pub words_in : List (Bor Text) → List Text
+words_in words = map (λ word. word.now) words
 
 -- the jobs that are built
 abbrev pub is_built : Task → Bool

@@ -2,7 +2,7 @@
 ghost use Rattle.std.specs.Prelude.{◌≡◌, ◌≤◌, ℕ, [], IfOk, IfSome, MatchResult, string_bytes};
 ghost use Rattle.commands.specs.Answers.{answer_of, built_line, line_of, write_fault};
 ghost use Rattle.commands.specs.Causes.{Causes};
-ghost use Rattle.commands.specs.Job.{CountsReading, Ends, IsUnwritten};
+ghost use Rattle.commands.specs.Job.{CountsReading, Ends, IsUnwritten, seen_of};
 ghost use Rattle.commands.specs.Parts.{IsReady, IsWritten};
 ghost use Rattle.commands.specs.InCode.{named};
 
@@ -49,12 +49,12 @@ fn unwritten(alloc: Global, name: &str) -> Result<Ending, Memory>
 fn write<S: Store>(alloc: Global, name: &str, ready: Ready, store: &mut S) -> Result<Ending, Memory>
     ensures { MatchResult result
         (λ e. IsWritten name.now ready.text.items (string_bytes ready.line)
-        (record { files = S.files store.old; reads = S.read_faults store.old; writes = S.write_faults store.old; bad = S.bad_name store.old })
-        (record { files = S.files store.new; reads = S.read_faults store.new; writes = S.write_faults store.new; bad = S.bad_name store.new })
+        (seen_of S.files S.read_faults S.write_faults S.bad_name store.old)
+        (seen_of S.files S.read_faults S.write_faults S.bad_name store.new)
         (answer_of e.status) (string_bytes e.line))
         (λ _. IsUnwritten
-        (record { files = S.files store.old; reads = S.read_faults store.old; writes = S.write_faults store.old; bad = S.bad_name store.old })
-        (record { files = S.files store.new; reads = S.read_faults store.new; writes = S.write_faults store.new; bad = S.bad_name store.new })) }
+        (seen_of S.files S.read_faults S.write_faults S.bad_name store.old)
+        (seen_of S.files S.read_faults S.write_faults S.bad_name store.new)) }
 {
     let failed = unwritten(alloc, name)?;
     match store.put(name, &ready.text) {
@@ -70,12 +70,12 @@ fn write<S: Store>(alloc: Global, name: &str, ready: Ready, store: &mut S) -> Re
 pub fn build<S: Store>(alloc: Global, job: &BuildJob, store: &mut S) -> Result<Ending, Memory>
     ensures { MatchResult result
         (λ e. Ends (named job.now)
-        (record { files = S.files store.old; reads = S.read_faults store.old; writes = S.write_faults store.old; bad = S.bad_name store.old })
-        (record { files = S.files store.new; reads = S.read_faults store.new; writes = S.write_faults store.new; bad = S.bad_name store.new })
+        (seen_of S.files S.read_faults S.write_faults S.bad_name store.old)
+        (seen_of S.files S.read_faults S.write_faults S.bad_name store.new)
         (answer_of e.status) (string_bytes e.line))
         (λ _. IsUnwritten
-        (record { files = S.files store.old; reads = S.read_faults store.old; writes = S.write_faults store.old; bad = S.bad_name store.old })
-        (record { files = S.files store.new; reads = S.read_faults store.new; writes = S.write_faults store.new; bad = S.bad_name store.new })) }
+        (seen_of S.files S.read_faults S.write_faults S.bad_name store.old)
+        (seen_of S.files S.read_faults S.write_faults S.bad_name store.new)) }
 {
     match ready(alloc, job, store) {
         Ok(ready) => write(alloc, job.image, ready, store),

@@ -9,6 +9,7 @@ ghost use Rattle.commands.specs.Begun.{FitBoxes, IsSession, MayRun};
 ghost use Rattle.commands.specs.Causes.{output};
 ghost use Rattle.commands.specs.InCode.{run_named};
 ghost use Rattle.commands.specs.Opening.{said_in};
+ghost use Rattle.commands.specs.Job.{seen_of};
 ghost use Rattle.commands.specs.RunJob.{IsPartlyLoaded, IsShown, RunRefuses};
 ghost use Rattle.commands.specs.Running.{boxes_seen, loaded};
 
@@ -51,8 +52,8 @@ fn load_box(b: &mut Box<dyn Supply>, rows: Vec<Refill>) -> Result<(), Memory>
 fn load_each(rows: Vec<Vec<Refill>>, supplies: &mut Vec<Box<dyn Supply>>) -> Result<(), Memory>
     requires { length rows.items ≤ length supplies.old.items }
     ensures { MatchResult result
-        (λ _. (boxes_seen (λ b. (⟦<dyn Supply as Supply>⟧ b.vtable).rows_left b.value) (λ b. (⟦<dyn Supply as Supply>⟧ b.vtable).supply_faults b.value) supplies.new.items) ≡ loaded (boxes_seen (λ b. (⟦<dyn Supply as Supply>⟧ b.vtable).rows_left b.value) (λ b. (⟦<dyn Supply as Supply>⟧ b.vtable).supply_faults b.value) supplies.old.items) (map (λ v. v.items) rows.items) ++ drop (length rows.items) (boxes_seen (λ b. (⟦<dyn Supply as Supply>⟧ b.vtable).rows_left b.value) (λ b. (⟦<dyn Supply as Supply>⟧ b.vtable).supply_faults b.value) supplies.old.items))
-        (λ _. IsPartlyLoaded (boxes_seen (λ b. (⟦<dyn Supply as Supply>⟧ b.vtable).rows_left b.value) (λ b. (⟦<dyn Supply as Supply>⟧ b.vtable).supply_faults b.value) supplies.old.items) (boxes_seen (λ b. (⟦<dyn Supply as Supply>⟧ b.vtable).rows_left b.value) (λ b. (⟦<dyn Supply as Supply>⟧ b.vtable).supply_faults b.value) supplies.new.items)) }
+        (λ _. (boxes_seen (λ b. rows_left b) (λ b. supply_faults b) supplies.new.items) ≡ loaded (boxes_seen (λ b. rows_left b) (λ b. supply_faults b) supplies.old.items) (map (λ v. v.items) rows.items) ++ drop (length rows.items) (boxes_seen (λ b. rows_left b) (λ b. supply_faults b) supplies.old.items))
+        (λ _. IsPartlyLoaded (boxes_seen (λ b. rows_left b) (λ b. supply_faults b) supplies.old.items) (boxes_seen (λ b. rows_left b) (λ b. supply_faults b) supplies.new.items)) }
 {
     let mut i = 0;
     for more in rows {
@@ -73,8 +74,8 @@ fn loaded(
 ) -> Result<Session, Memory>
     requires { length holdings.rows.items ≤ length supplies.old.items }
     ensures { MatchResult result
-        (λ session. IsSession steps (said_in holdings) (boxes_seen (λ b. (⟦<dyn Supply as Supply>⟧ b.vtable).rows_left b.value) (λ b. (⟦<dyn Supply as Supply>⟧ b.vtable).supply_faults b.value) supplies.old.items) (boxes_seen (λ b. (⟦<dyn Supply as Supply>⟧ b.vtable).rows_left b.value) (λ b. (⟦<dyn Supply as Supply>⟧ b.vtable).supply_faults b.value) supplies.new.items) session)
-        (λ _. IsPartlyLoaded (boxes_seen (λ b. (⟦<dyn Supply as Supply>⟧ b.vtable).rows_left b.value) (λ b. (⟦<dyn Supply as Supply>⟧ b.vtable).supply_faults b.value) supplies.old.items) (boxes_seen (λ b. (⟦<dyn Supply as Supply>⟧ b.vtable).rows_left b.value) (λ b. (⟦<dyn Supply as Supply>⟧ b.vtable).supply_faults b.value) supplies.new.items)) }
+        (λ session. IsSession steps (said_in holdings) (boxes_seen (λ b. rows_left b) (λ b. supply_faults b) supplies.old.items) (boxes_seen (λ b. rows_left b) (λ b. supply_faults b) supplies.new.items) session)
+        (λ _. IsPartlyLoaded (boxes_seen (λ b. rows_left b) (λ b. supply_faults b) supplies.old.items) (boxes_seen (λ b. rows_left b) (λ b. supply_faults b) supplies.new.items)) }
 {
     let machine = Machine::load(alloc, &holdings.image)?;
     let count = holdings.rows.len();
@@ -98,13 +99,13 @@ pub fn opened<S: Store>(
     requires boxes { FitBoxes (run_named job.now).supplies (length supplies.old.items) }
     ensures { MatchResult result
         (λ session. MayRun (run_named job.now)
-        (record { files = S.files store.old; reads = S.read_faults store.old; writes = S.write_faults store.old; bad = S.bad_name store.old })
-        (record { files = S.files store.new; reads = S.read_faults store.new; writes = S.write_faults store.new; bad = S.bad_name store.new })
-        (boxes_seen (λ b. (⟦<dyn Supply as Supply>⟧ b.vtable).rows_left b.value) (λ b. (⟦<dyn Supply as Supply>⟧ b.vtable).supply_faults b.value) supplies.old.items) (boxes_seen (λ b. (⟦<dyn Supply as Supply>⟧ b.vtable).rows_left b.value) (λ b. (⟦<dyn Supply as Supply>⟧ b.vtable).supply_faults b.value) supplies.new.items) session)
+        (seen_of S.files S.read_faults S.write_faults S.bad_name store.old)
+        (seen_of S.files S.read_faults S.write_faults S.bad_name store.new)
+        (boxes_seen (λ b. rows_left b) (λ b. supply_faults b) supplies.old.items) (boxes_seen (λ b. rows_left b) (λ b. supply_faults b) supplies.new.items) session)
         (λ status. RunRefuses (run_named job.now)
-        (record { files = S.files store.old; reads = S.read_faults store.old; writes = S.write_faults store.old; bad = S.bad_name store.old })
-        (record { files = S.files store.new; reads = S.read_faults store.new; writes = S.write_faults store.new; bad = S.bad_name store.new })
-        (boxes_seen (λ b. (⟦<dyn Supply as Supply>⟧ b.vtable).rows_left b.value) (λ b. (⟦<dyn Supply as Supply>⟧ b.vtable).supply_faults b.value) supplies.old.items) (boxes_seen (λ b. (⟦<dyn Supply as Supply>⟧ b.vtable).rows_left b.value) (λ b. (⟦<dyn Supply as Supply>⟧ b.vtable).supply_faults b.value) supplies.new.items) (answer_of status)) }
+        (seen_of S.files S.read_faults S.write_faults S.bad_name store.old)
+        (seen_of S.files S.read_faults S.write_faults S.bad_name store.new)
+        (boxes_seen (λ b. rows_left b) (λ b. supply_faults b) supplies.old.items) (boxes_seen (λ b. rows_left b) (λ b. supply_faults b) supplies.new.items) (answer_of status)) }
 {
     let texts = texts_of(alloc, job, store)?;
     let holdings = holdings_of(alloc, job, &texts)?;
@@ -141,10 +142,10 @@ pub fn session_ends<K: Sink>(
     requires fresh { session.core.counts ≡ no_counts }
     requires off { session.core.machine.phase ≡ Off }
     requires few_steps { session.steps ≤ 1000000000 }
-    requires few_rows { length (all_rows (λ b. (⟦<dyn Supply as Supply>⟧ b.vtable).rows_left b.value) supplies.old.items) < 2 ^ 33 }
+    requires few_rows { length (all_rows (λ b. rows_left b) supplies.old.items) < 2 ^ 33 }
     requires output { string_bytes name ≡ output }
     ensures { IsShown session.board session.input.items session.steps (state_of session.core.machine)
-        (boxes_seen (λ b. (⟦<dyn Supply as Supply>⟧ b.vtable).rows_left b.value) (λ b. (⟦<dyn Supply as Supply>⟧ b.vtable).supply_faults b.value) supplies.old.items) (boxes_seen (λ b. (⟦<dyn Supply as Supply>⟧ b.vtable).rows_left b.value) (λ b. (⟦<dyn Supply as Supply>⟧ b.vtable).supply_faults b.value) supplies.new.items)
+        (boxes_seen (λ b. rows_left b) (λ b. supply_faults b) supplies.old.items) (boxes_seen (λ b. rows_left b) (λ b. supply_faults b) supplies.new.items)
         (K.taken sink.old) (K.taken sink.new) (K.faults sink.old) (K.faults sink.new) (answer_of result) }
 {
     let mut bench = Bench::new(mem::replace(supplies, Vec::new(alloc)));

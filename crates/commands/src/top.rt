@@ -1,23 +1,23 @@
 //! The call, and the jobs that it knows.
-ghost use Rattle.std.specs.Prelude.{◌≡◌, ◌<◌, ◌≤◌, ◌^◌, length, map, IfSome, MatchResult, string_bytes};
+ghost use Rattle.std.specs.Prelude.{◌≡◌, ◌<◌, ◌≤◌, ◌^◌, length, IfSome, MatchResult, string_bytes};
 ghost use Rattle.base_io.specs.Counts.{Rose};
 ghost use Rattle.job_parts.specs.Asked.{IsInRange, asked, job_task, request};
 ghost use Rattle.supply_trace.specs.Boxes.{all_rows};
 ghost use Rattle.commands.specs.Answers.{answer_of, done, not_built, write_fault};
 ghost use Rattle.commands.specs.Begun.{FitBoxes, FitsBoxes, GivesUp, MatchBegun, MayRun, MaySay, Opens, Speaks, TaskGivesUp, TaskRuns, TaskSays, WordsGiveUp};
-ghost use Rattle.commands.specs.Call.{Called, ComesTo, Puts, TaskEnds};
+ghost use Rattle.commands.specs.Call.{Called, ComesTo, Puts, TaskEnds, sunk_of};
 ghost use Rattle.commands.specs.Causes.{HasCause, output};
 ghost use Rattle.commands.specs.Faults.{IsComplete, IsReadFaultOrFree, IsWriteFault, NoBoxRose, ReadFaultIs, SupplyFaultIs, TooLargeIs, WordsAre, WriteFaultIs};
 ghost use Rattle.commands.specs.Headline.{IsKeptTold};
 ghost use Rattle.commands.specs.InCode.{named, run_named, say_named};
-ghost use Rattle.commands.specs.Job.{Ends, IsUnwritten};
+ghost use Rattle.commands.specs.Job.{Ends, IsUnwritten, seen_of};
 ghost use Rattle.commands.specs.Laws.{DecideOne};
 ghost use Rattle.commands.specs.Left.{LeavesTold};
 ghost use Rattle.commands.specs.Refusing.{IsRefusal};
 ghost use Rattle.commands.specs.RunJob.{RunEnds};
 ghost use Rattle.commands.specs.SayJob.{SayEnds};
 ghost use Rattle.commands.specs.Running.{boxes_seen};
-ghost use Rattle.commands.specs.Words.{AskBuild, Build};
+ghost use Rattle.commands.specs.Words.{AskBuild, Build, words_in};
 ghost use Rattle.commands.specs.declared.status.Unbuilt.TheVariants.{Words};
 
 use crate::build_job::BuildJob;
@@ -57,37 +57,37 @@ pub fn schematic<S: Store, K: Sink>(
 ) -> Status
     // There is a box for each word, and what they hold can be counted.
     requires boxes { length words.now ≤ length supplies.old.items }
-    requires rows { length (all_rows (λ b. (⟦<dyn Supply as Supply>⟧ b.vtable).rows_left b.value) supplies.old.items) < 2 ^ 32 }
+    requires rows { length (all_rows (λ b. rows_left b) supplies.old.items) < 2 ^ 32 }
     // A build that was done: the image under IMAGE agrees with the program that was read, on the board that was read.
-    ensures headline { (job : Build) → AskBuild (map (λ word. word.now) words.now) job → answer_of result ≡ done → IsKeptTold (map (λ word. word.now) words.now) (S.files store.old) (S.files store.new) }
+    ensures headline { (job : Build) → AskBuild (words_in words.now) job → answer_of result ≡ done → IsKeptTold (words_in words.now) (S.files store.old) (S.files store.new) }
     // Why each status comes, and that no other comes where no fault is counted.
-    ensures cause { IfSome (S.files store.old) (λ files. HasCause (map (λ word. word.now) words.now) files (boxes_seen (λ b. (⟦<dyn Supply as Supply>⟧ b.vtable).rows_left b.value) (λ b. (⟦<dyn Supply as Supply>⟧ b.vtable).supply_faults b.value) supplies.old.items) (answer_of result)) }
+    ensures cause { IfSome (S.files store.old) (λ files. HasCause (words_in words.now) files (boxes_seen (λ b. rows_left b) (λ b. supply_faults b) supplies.old.items) (answer_of result)) }
     ensures complete { IfSome (S.files store.old) (λ files.
         ¬ Rose (S.read_faults store.old) (S.read_faults store.new) → ¬ Rose (S.write_faults store.old) (S.write_faults store.new)
         → ¬ Rose (K.faults sink.old) (K.faults sink.new)
-        → NoBoxRose (map (λ word. word.now) words.now) (boxes_seen (λ b. (⟦<dyn Supply as Supply>⟧ b.vtable).rows_left b.value) (λ b. (⟦<dyn Supply as Supply>⟧ b.vtable).supply_faults b.value) supplies.old.items) (boxes_seen (λ b. (⟦<dyn Supply as Supply>⟧ b.vtable).rows_left b.value) (λ b. (⟦<dyn Supply as Supply>⟧ b.vtable).supply_faults b.value) supplies.new.items)
-        → IsComplete (map (λ word. word.now) words.now) files (boxes_seen (λ b. (⟦<dyn Supply as Supply>⟧ b.vtable).rows_left b.value) (λ b. (⟦<dyn Supply as Supply>⟧ b.vtable).supply_faults b.value) supplies.old.items) (answer_of result)) }
-    ensures words { WordsAre (map (λ word. word.now) words.now) (answer_of result) }
+        → NoBoxRose (words_in words.now) (boxes_seen (λ b. rows_left b) (λ b. supply_faults b) supplies.old.items) (boxes_seen (λ b. rows_left b) (λ b. supply_faults b) supplies.new.items)
+        → IsComplete (words_in words.now) files (boxes_seen (λ b. rows_left b) (λ b. supply_faults b) supplies.old.items) (answer_of result)) }
+    ensures words { WordsAre (words_in words.now) (answer_of result) }
     // Faults, by the counts of the store, of the boxes and of the output.
-    ensures read_fault { ReadFaultIs (map (λ word. word.now) words.now) (S.read_faults store.old) (S.read_faults store.new)
+    ensures read_fault { ReadFaultIs (words_in words.now) (S.read_faults store.old) (S.read_faults store.new)
         (S.bad_name store.new) (answer_of result) }
     ensures read_rose { S.read_faults store.old < S.read_faults store.new → IsReadFaultOrFree (answer_of result) }
-    ensures too_large { TooLargeIs (map (λ word. word.now) words.now) (answer_of result) }
-    ensures write_fault { WriteFaultIs (map (λ word. word.now) words.now) (S.write_faults store.old) (S.write_faults store.new)
+    ensures too_large { TooLargeIs (words_in words.now) (answer_of result) }
+    ensures write_fault { WriteFaultIs (words_in words.now) (S.write_faults store.old) (S.write_faults store.new)
         (K.faults sink.old) (K.faults sink.new) (answer_of result) }
     ensures write_rose { S.write_faults store.old < S.write_faults store.new → IsWriteFault (answer_of result) }
-    ensures supply_fault { SupplyFaultIs (map (λ word. word.now) words.now) (boxes_seen (λ b. (⟦<dyn Supply as Supply>⟧ b.vtable).rows_left b.value) (λ b. (⟦<dyn Supply as Supply>⟧ b.vtable).supply_faults b.value) supplies.old.items) (boxes_seen (λ b. (⟦<dyn Supply as Supply>⟧ b.vtable).rows_left b.value) (λ b. (⟦<dyn Supply as Supply>⟧ b.vtable).supply_faults b.value) supplies.new.items) (answer_of result) }
+    ensures supply_fault { SupplyFaultIs (words_in words.now) (boxes_seen (λ b. rows_left b) (λ b. supply_faults b) supplies.old.items) (boxes_seen (λ b. rows_left b) (λ b. supply_faults b) supplies.new.items) (answer_of result) }
     ensures output_rose { K.faults sink.old < K.faults sink.new → answer_of result ≡ write_fault output }
     // What is left in the files; and the whole: how the job ended, what was put of it, and what is left of the boxes.
-    ensures leaves { LeavesTold (map (λ word. word.now) words.now) (answer_of result) (S.files store.old) (S.files store.new) }
+    ensures leaves { LeavesTold (words_in words.now) (answer_of result) (S.files store.old) (S.files store.new) }
     ensures failed_write { S.write_faults store.old < S.write_faults store.new → S.files store.new ≡ S.files store.old }
-    ensures call { Called (map (λ word. word.now) words.now)
-        (record { files = S.files store.old; reads = S.read_faults store.old; writes = S.write_faults store.old; bad = S.bad_name store.old })
-        (record { files = S.files store.new; reads = S.read_faults store.new; writes = S.write_faults store.new; bad = S.bad_name store.new })
-        (boxes_seen (λ b. (⟦<dyn Supply as Supply>⟧ b.vtable).rows_left b.value) (λ b. (⟦<dyn Supply as Supply>⟧ b.vtable).supply_faults b.value) supplies.old.items)
-        (boxes_seen (λ b. (⟦<dyn Supply as Supply>⟧ b.vtable).rows_left b.value) (λ b. (⟦<dyn Supply as Supply>⟧ b.vtable).supply_faults b.value) supplies.new.items)
-        (record { told = K.taken sink.old; faults = K.faults sink.old })
-        (record { told = K.taken sink.new; faults = K.faults sink.new })
+    ensures call { Called (words_in words.now)
+        (seen_of S.files S.read_faults S.write_faults S.bad_name store.old)
+        (seen_of S.files S.read_faults S.write_faults S.bad_name store.new)
+        (boxes_seen (λ b. rows_left b) (λ b. supply_faults b) supplies.old.items)
+        (boxes_seen (λ b. rows_left b) (λ b. supply_faults b) supplies.new.items)
+        (sunk_of K.taken K.faults sink.old)
+        (sunk_of K.taken K.faults sink.new)
         (answer_of result) }
 {
     straight_images_agree();
@@ -112,22 +112,22 @@ fn job_begun<S: Store>(
     ensures { MatchResult result
         (λ e. MatchBegun e
         (λ ending. TaskEnds (job_task asked.now.job) asked.now.budget asked.now.steps
-        (record { files = S.files store.old; reads = S.read_faults store.old; writes = S.write_faults store.old; bad = S.bad_name store.old })
-        (record { files = S.files store.new; reads = S.read_faults store.new; writes = S.write_faults store.new; bad = S.bad_name store.new })
-        (boxes_seen (λ b. (⟦<dyn Supply as Supply>⟧ b.vtable).rows_left b.value) (λ b. (⟦<dyn Supply as Supply>⟧ b.vtable).supply_faults b.value) supplies.old.items) (boxes_seen (λ b. (⟦<dyn Supply as Supply>⟧ b.vtable).rows_left b.value) (λ b. (⟦<dyn Supply as Supply>⟧ b.vtable).supply_faults b.value) supplies.new.items)
+        (seen_of S.files S.read_faults S.write_faults S.bad_name store.old)
+        (seen_of S.files S.read_faults S.write_faults S.bad_name store.new)
+        (boxes_seen (λ b. rows_left b) (λ b. supply_faults b) supplies.old.items) (boxes_seen (λ b. rows_left b) (λ b. supply_faults b) supplies.new.items)
         (answer_of ending.status) (string_bytes ending.line))
         (λ session. TaskRuns (job_task asked.now.job) asked.now.budget asked.now.steps
-        (record { files = S.files store.old; reads = S.read_faults store.old; writes = S.write_faults store.old; bad = S.bad_name store.old })
-        (record { files = S.files store.new; reads = S.read_faults store.new; writes = S.write_faults store.new; bad = S.bad_name store.new })
-        (boxes_seen (λ b. (⟦<dyn Supply as Supply>⟧ b.vtable).rows_left b.value) (λ b. (⟦<dyn Supply as Supply>⟧ b.vtable).supply_faults b.value) supplies.old.items) (boxes_seen (λ b. (⟦<dyn Supply as Supply>⟧ b.vtable).rows_left b.value) (λ b. (⟦<dyn Supply as Supply>⟧ b.vtable).supply_faults b.value) supplies.new.items) session)
+        (seen_of S.files S.read_faults S.write_faults S.bad_name store.old)
+        (seen_of S.files S.read_faults S.write_faults S.bad_name store.new)
+        (boxes_seen (λ b. rows_left b) (λ b. supply_faults b) supplies.old.items) (boxes_seen (λ b. rows_left b) (λ b. supply_faults b) supplies.new.items) session)
         (λ saying. TaskSays (job_task asked.now.job) asked.now.steps
-        (record { files = S.files store.old; reads = S.read_faults store.old; writes = S.write_faults store.old; bad = S.bad_name store.old })
-        (record { files = S.files store.new; reads = S.read_faults store.new; writes = S.write_faults store.new; bad = S.bad_name store.new })
-        (boxes_seen (λ b. (⟦<dyn Supply as Supply>⟧ b.vtable).rows_left b.value) (λ b. (⟦<dyn Supply as Supply>⟧ b.vtable).supply_faults b.value) supplies.old.items) (boxes_seen (λ b. (⟦<dyn Supply as Supply>⟧ b.vtable).rows_left b.value) (λ b. (⟦<dyn Supply as Supply>⟧ b.vtable).supply_faults b.value) supplies.new.items) saying))
+        (seen_of S.files S.read_faults S.write_faults S.bad_name store.old)
+        (seen_of S.files S.read_faults S.write_faults S.bad_name store.new)
+        (boxes_seen (λ b. rows_left b) (λ b. supply_faults b) supplies.old.items) (boxes_seen (λ b. rows_left b) (λ b. supply_faults b) supplies.new.items) saying))
         (λ _. TaskGivesUp (job_task asked.now.job)
-        (record { files = S.files store.old; reads = S.read_faults store.old; writes = S.write_faults store.old; bad = S.bad_name store.old })
-        (record { files = S.files store.new; reads = S.read_faults store.new; writes = S.write_faults store.new; bad = S.bad_name store.new })
-        (boxes_seen (λ b. (⟦<dyn Supply as Supply>⟧ b.vtable).rows_left b.value) (λ b. (⟦<dyn Supply as Supply>⟧ b.vtable).supply_faults b.value) supplies.old.items) (boxes_seen (λ b. (⟦<dyn Supply as Supply>⟧ b.vtable).rows_left b.value) (λ b. (⟦<dyn Supply as Supply>⟧ b.vtable).supply_faults b.value) supplies.new.items)) }
+        (seen_of S.files S.read_faults S.write_faults S.bad_name store.old)
+        (seen_of S.files S.read_faults S.write_faults S.bad_name store.new)
+        (boxes_seen (λ b. rows_left b) (λ b. supply_faults b) supplies.old.items) (boxes_seen (λ b. rows_left b) (λ b. supply_faults b) supplies.new.items)) }
 {
     match &asked.job {
         Job::Build {
@@ -201,14 +201,14 @@ fn build_begun<S: Store>(alloc: Global, job: &BuildJob, store: &mut S) -> Result
     ensures { MatchResult result
         (λ e. MatchBegun e
         (λ ending. Ends (named job.now)
-        (record { files = S.files store.old; reads = S.read_faults store.old; writes = S.write_faults store.old; bad = S.bad_name store.old })
-        (record { files = S.files store.new; reads = S.read_faults store.new; writes = S.write_faults store.new; bad = S.bad_name store.new })
+        (seen_of S.files S.read_faults S.write_faults S.bad_name store.old)
+        (seen_of S.files S.read_faults S.write_faults S.bad_name store.new)
         (answer_of ending.status) (string_bytes ending.line))
         (λ session. ⊥)
         (λ saying. ⊥))
         (λ _. IsUnwritten
-        (record { files = S.files store.old; reads = S.read_faults store.old; writes = S.write_faults store.old; bad = S.bad_name store.old })
-        (record { files = S.files store.new; reads = S.read_faults store.new; writes = S.write_faults store.new; bad = S.bad_name store.new })) }
+        (seen_of S.files S.read_faults S.write_faults S.bad_name store.old)
+        (seen_of S.files S.read_faults S.write_faults S.bad_name store.new)) }
 {
     match build(alloc, job, store) {
         Ok(ending) => Ok(Begun::Ends(ending)),
@@ -227,19 +227,19 @@ fn run_begun<S: Store>(
     ensures { MatchResult result
         (λ e. MatchBegun e
         (λ ending. RunEnds (run_named job.now)
-        (record { files = S.files store.old; reads = S.read_faults store.old; writes = S.write_faults store.old; bad = S.bad_name store.old })
-        (record { files = S.files store.new; reads = S.read_faults store.new; writes = S.write_faults store.new; bad = S.bad_name store.new })
-        (boxes_seen (λ b. (⟦<dyn Supply as Supply>⟧ b.vtable).rows_left b.value) (λ b. (⟦<dyn Supply as Supply>⟧ b.vtable).supply_faults b.value) supplies.old.items) (boxes_seen (λ b. (⟦<dyn Supply as Supply>⟧ b.vtable).rows_left b.value) (λ b. (⟦<dyn Supply as Supply>⟧ b.vtable).supply_faults b.value) supplies.new.items)
+        (seen_of S.files S.read_faults S.write_faults S.bad_name store.old)
+        (seen_of S.files S.read_faults S.write_faults S.bad_name store.new)
+        (boxes_seen (λ b. rows_left b) (λ b. supply_faults b) supplies.old.items) (boxes_seen (λ b. rows_left b) (λ b. supply_faults b) supplies.new.items)
         (answer_of ending.status) (string_bytes ending.line))
         (λ session. MayRun (run_named job.now)
-        (record { files = S.files store.old; reads = S.read_faults store.old; writes = S.write_faults store.old; bad = S.bad_name store.old })
-        (record { files = S.files store.new; reads = S.read_faults store.new; writes = S.write_faults store.new; bad = S.bad_name store.new })
-        (boxes_seen (λ b. (⟦<dyn Supply as Supply>⟧ b.vtable).rows_left b.value) (λ b. (⟦<dyn Supply as Supply>⟧ b.vtable).supply_faults b.value) supplies.old.items) (boxes_seen (λ b. (⟦<dyn Supply as Supply>⟧ b.vtable).rows_left b.value) (λ b. (⟦<dyn Supply as Supply>⟧ b.vtable).supply_faults b.value) supplies.new.items) session)
+        (seen_of S.files S.read_faults S.write_faults S.bad_name store.old)
+        (seen_of S.files S.read_faults S.write_faults S.bad_name store.new)
+        (boxes_seen (λ b. rows_left b) (λ b. supply_faults b) supplies.old.items) (boxes_seen (λ b. rows_left b) (λ b. supply_faults b) supplies.new.items) session)
         (λ saying. ⊥))
         (λ _. GivesUp
-        (record { files = S.files store.old; reads = S.read_faults store.old; writes = S.write_faults store.old; bad = S.bad_name store.old })
-        (record { files = S.files store.new; reads = S.read_faults store.new; writes = S.write_faults store.new; bad = S.bad_name store.new })
-        (boxes_seen (λ b. (⟦<dyn Supply as Supply>⟧ b.vtable).rows_left b.value) (λ b. (⟦<dyn Supply as Supply>⟧ b.vtable).supply_faults b.value) supplies.old.items) (boxes_seen (λ b. (⟦<dyn Supply as Supply>⟧ b.vtable).rows_left b.value) (λ b. (⟦<dyn Supply as Supply>⟧ b.vtable).supply_faults b.value) supplies.new.items)) }
+        (seen_of S.files S.read_faults S.write_faults S.bad_name store.old)
+        (seen_of S.files S.read_faults S.write_faults S.bad_name store.new)
+        (boxes_seen (λ b. rows_left b) (λ b. supply_faults b) supplies.old.items) (boxes_seen (λ b. rows_left b) (λ b. supply_faults b) supplies.new.items)) }
 {
     match opened(alloc, job, store, supplies) {
         Ok(session) => Ok(Begun::Runs(session)),
@@ -252,16 +252,16 @@ fn say_begun<S: Store>(alloc: Global, job: &SayJob, store: &mut S) -> Result<Beg
     ensures { MatchResult result
         (λ e. MatchBegun e
         (λ ending. SayEnds (say_named job.now)
-        (record { files = S.files store.old; reads = S.read_faults store.old; writes = S.write_faults store.old; bad = S.bad_name store.old })
-        (record { files = S.files store.new; reads = S.read_faults store.new; writes = S.write_faults store.new; bad = S.bad_name store.new })
+        (seen_of S.files S.read_faults S.write_faults S.bad_name store.old)
+        (seen_of S.files S.read_faults S.write_faults S.bad_name store.new)
         (answer_of ending.status) (string_bytes ending.line))
         (λ session. ⊥)
         (λ saying. MaySay (say_named job.now)
-        (record { files = S.files store.old; reads = S.read_faults store.old; writes = S.write_faults store.old; bad = S.bad_name store.old })
-        (record { files = S.files store.new; reads = S.read_faults store.new; writes = S.write_faults store.new; bad = S.bad_name store.new }) saying))
+        (seen_of S.files S.read_faults S.write_faults S.bad_name store.old)
+        (seen_of S.files S.read_faults S.write_faults S.bad_name store.new) saying))
         (λ _. IsUnwritten
-        (record { files = S.files store.old; reads = S.read_faults store.old; writes = S.write_faults store.old; bad = S.bad_name store.old })
-        (record { files = S.files store.new; reads = S.read_faults store.new; writes = S.write_faults store.new; bad = S.bad_name store.new })) }
+        (seen_of S.files S.read_faults S.write_faults S.bad_name store.old)
+        (seen_of S.files S.read_faults S.write_faults S.bad_name store.new)) }
 {
     match holding(alloc, job, store) {
         Ok(saying) => Ok(Begun::Says(saying)),
@@ -279,23 +279,23 @@ fn words_begun<S: Store>(
     requires boxes { length words.now ≤ length supplies.old.items }
     ensures { MatchResult result
         (λ e. MatchBegun e
-        (λ ending. ComesTo (asked (map (λ word. word.now) words.now))
-        (record { files = S.files store.old; reads = S.read_faults store.old; writes = S.write_faults store.old; bad = S.bad_name store.old })
-        (record { files = S.files store.new; reads = S.read_faults store.new; writes = S.write_faults store.new; bad = S.bad_name store.new })
-        (boxes_seen (λ b. (⟦<dyn Supply as Supply>⟧ b.vtable).rows_left b.value) (λ b. (⟦<dyn Supply as Supply>⟧ b.vtable).supply_faults b.value) supplies.old.items) (boxes_seen (λ b. (⟦<dyn Supply as Supply>⟧ b.vtable).rows_left b.value) (λ b. (⟦<dyn Supply as Supply>⟧ b.vtable).supply_faults b.value) supplies.new.items)
+        (λ ending. ComesTo (asked (words_in words.now))
+        (seen_of S.files S.read_faults S.write_faults S.bad_name store.old)
+        (seen_of S.files S.read_faults S.write_faults S.bad_name store.new)
+        (boxes_seen (λ b. rows_left b) (λ b. supply_faults b) supplies.old.items) (boxes_seen (λ b. rows_left b) (λ b. supply_faults b) supplies.new.items)
         (answer_of ending.status) (string_bytes ending.line))
-        (λ session. Opens (map (λ word. word.now) words.now)
-        (record { files = S.files store.old; reads = S.read_faults store.old; writes = S.write_faults store.old; bad = S.bad_name store.old })
-        (record { files = S.files store.new; reads = S.read_faults store.new; writes = S.write_faults store.new; bad = S.bad_name store.new })
-        (boxes_seen (λ b. (⟦<dyn Supply as Supply>⟧ b.vtable).rows_left b.value) (λ b. (⟦<dyn Supply as Supply>⟧ b.vtable).supply_faults b.value) supplies.old.items) (boxes_seen (λ b. (⟦<dyn Supply as Supply>⟧ b.vtable).rows_left b.value) (λ b. (⟦<dyn Supply as Supply>⟧ b.vtable).supply_faults b.value) supplies.new.items) session)
-        (λ saying. Speaks (map (λ word. word.now) words.now)
-        (record { files = S.files store.old; reads = S.read_faults store.old; writes = S.write_faults store.old; bad = S.bad_name store.old })
-        (record { files = S.files store.new; reads = S.read_faults store.new; writes = S.write_faults store.new; bad = S.bad_name store.new })
-        (boxes_seen (λ b. (⟦<dyn Supply as Supply>⟧ b.vtable).rows_left b.value) (λ b. (⟦<dyn Supply as Supply>⟧ b.vtable).supply_faults b.value) supplies.old.items) (boxes_seen (λ b. (⟦<dyn Supply as Supply>⟧ b.vtable).rows_left b.value) (λ b. (⟦<dyn Supply as Supply>⟧ b.vtable).supply_faults b.value) supplies.new.items) saying))
-        (λ _. WordsGiveUp (map (λ word. word.now) words.now)
-        (record { files = S.files store.old; reads = S.read_faults store.old; writes = S.write_faults store.old; bad = S.bad_name store.old })
-        (record { files = S.files store.new; reads = S.read_faults store.new; writes = S.write_faults store.new; bad = S.bad_name store.new })
-        (boxes_seen (λ b. (⟦<dyn Supply as Supply>⟧ b.vtable).rows_left b.value) (λ b. (⟦<dyn Supply as Supply>⟧ b.vtable).supply_faults b.value) supplies.old.items) (boxes_seen (λ b. (⟦<dyn Supply as Supply>⟧ b.vtable).rows_left b.value) (λ b. (⟦<dyn Supply as Supply>⟧ b.vtable).supply_faults b.value) supplies.new.items)) }
+        (λ session. Opens (words_in words.now)
+        (seen_of S.files S.read_faults S.write_faults S.bad_name store.old)
+        (seen_of S.files S.read_faults S.write_faults S.bad_name store.new)
+        (boxes_seen (λ b. rows_left b) (λ b. supply_faults b) supplies.old.items) (boxes_seen (λ b. rows_left b) (λ b. supply_faults b) supplies.new.items) session)
+        (λ saying. Speaks (words_in words.now)
+        (seen_of S.files S.read_faults S.write_faults S.bad_name store.old)
+        (seen_of S.files S.read_faults S.write_faults S.bad_name store.new)
+        (boxes_seen (λ b. rows_left b) (λ b. supply_faults b) supplies.old.items) (boxes_seen (λ b. rows_left b) (λ b. supply_faults b) supplies.new.items) saying))
+        (λ _. WordsGiveUp (words_in words.now)
+        (seen_of S.files S.read_faults S.write_faults S.bad_name store.old)
+        (seen_of S.files S.read_faults S.write_faults S.bad_name store.new)
+        (boxes_seen (λ b. rows_left b) (λ b. supply_faults b) supplies.old.items) (boxes_seen (λ b. rows_left b) (λ b. supply_faults b) supplies.new.items)) }
 {
     match read_words(alloc, words)? {
         Some(asked) => job_begun(alloc, &asked, store, supplies),
@@ -307,8 +307,8 @@ fn words_begun<S: Store>(
 fn put_line<K: Sink>(name: String, status: Status, line: &str, sink: &mut K) -> Status
     requires output { string_bytes name ≡ output }
     ensures { Puts (answer_of status) line.now
-        (record { told = K.taken sink.old; faults = K.faults sink.old })
-        (record { told = K.taken sink.new; faults = K.faults sink.new })
+        (sunk_of K.taken K.faults sink.old)
+        (sunk_of K.taken K.faults sink.new)
         (answer_of result) }
 {
     match sink.put(line.as_bytes()) {
@@ -321,8 +321,8 @@ fn put_line<K: Sink>(name: String, status: Status, line: &str, sink: &mut K) -> 
 fn put_ending<K: Sink>(ending: Ending, name: String, sink: &mut K) -> Status
     requires output { string_bytes name ≡ output }
     ensures { Puts (answer_of ending.status) (string_bytes ending.line)
-        (record { told = K.taken sink.old; faults = K.faults sink.old })
-        (record { told = K.taken sink.new; faults = K.faults sink.new })
+        (sunk_of K.taken K.faults sink.old)
+        (sunk_of K.taken K.faults sink.new)
         (answer_of result) }
 {
     put_line(name, ending.status, ending.line.as_str(), sink)
@@ -337,14 +337,14 @@ fn run<S: Store, K: Sink>(
     sink: &mut K,
 ) -> Status
     requires boxes { length words.now ≤ length supplies.old.items }
-    requires rows { length (all_rows (λ b. (⟦<dyn Supply as Supply>⟧ b.vtable).rows_left b.value) supplies.old.items) < 2 ^ 32 }
-    ensures { Called (map (λ word. word.now) words.now)
-        (record { files = S.files store.old; reads = S.read_faults store.old; writes = S.write_faults store.old; bad = S.bad_name store.old })
-        (record { files = S.files store.new; reads = S.read_faults store.new; writes = S.write_faults store.new; bad = S.bad_name store.new })
-        (boxes_seen (λ b. (⟦<dyn Supply as Supply>⟧ b.vtable).rows_left b.value) (λ b. (⟦<dyn Supply as Supply>⟧ b.vtable).supply_faults b.value) supplies.old.items)
-        (boxes_seen (λ b. (⟦<dyn Supply as Supply>⟧ b.vtable).rows_left b.value) (λ b. (⟦<dyn Supply as Supply>⟧ b.vtable).supply_faults b.value) supplies.new.items)
-        (record { told = K.taken sink.old; faults = K.faults sink.old })
-        (record { told = K.taken sink.new; faults = K.faults sink.new })
+    requires rows { length (all_rows (λ b. rows_left b) supplies.old.items) < 2 ^ 32 }
+    ensures { Called (words_in words.now)
+        (seen_of S.files S.read_faults S.write_faults S.bad_name store.old)
+        (seen_of S.files S.read_faults S.write_faults S.bad_name store.new)
+        (boxes_seen (λ b. rows_left b) (λ b. supply_faults b) supplies.old.items)
+        (boxes_seen (λ b. rows_left b) (λ b. supply_faults b) supplies.new.items)
+        (sunk_of K.taken K.faults sink.old)
+        (sunk_of K.taken K.faults sink.new)
         (answer_of result) }
 {
     let Ok(output) = String::from_str(alloc, "-") else {
