@@ -1,5 +1,5 @@
 -- A build of files comes to one answer at most.
-use Rattle.std.proofs.Common.{◌≡◌, ◌<◌, ◌≤◌, ◌∷◌, [], ℕ, List, Option, sym, subst, ap, ap₂, ◌∙◌, refl, arith}
+use Rattle.std.proofs.Common.{◌≡◌, ◌<◌, ◌≤◌, ℕ, List, Option, sym, subst, ap, ap₂, ◌∙◌, refl, arith}
 use Rattle.base_io.specs.Files.{Files}
 use Rattle.base_io.specs.declared.place.Place.{Place}
 use Rattle.board_table.specs.declared.board.Board.{Board}

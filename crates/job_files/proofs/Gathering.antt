@@ -1,5 +1,5 @@
 -- Files that are read one behind another.
-use Rattle.std.proofs.Common.{◌≡◌, ◌∙◌, ◌+◌, ◌<◌, ◌++◌, ℕ, List, [], ◌∷◌, Option, Some, None, IfSome, sym, subst, inl, inr, refl, append_assoc, append-nil}
+use Rattle.std.proofs.Common.{◌≡◌, ◌∙◌, ◌++◌, ℕ, List, [], ◌∷◌, Option, Some, None, IfSome, sym, subst, inl, inr, refl, append_assoc, append-nil}
 use Rattle.base_io.specs.Counts.{Rose}
 use Rattle.base_io.specs.Files.{Files}
 use Rattle.job_files.specs.Answers.{Answer, no_memory, read_fault, too_large}
@@ -86,4 +86,3 @@ counts_rest o all rest texts start before now bad a e g h = absurd h
 pub counts_lost : (o : Option Files) (all rest : List Wanted) (w : Wanted) (texts : List Text) (start before now : ℕ) (bad : Text) (a : Answer) → before ≡ start → IsGathered o all (w ∷ rest) texts
     → CountsUnread w.most w.name before now bad a → CountsUnhad all start now bad a
 counts_lost o all rest w texts start before now bad a e g h = counts_rest o all (w ∷ rest) texts start before now bad a e g (counts_here w before now bad rest a h)
-

@@ -20,7 +20,6 @@ texts_same files (w ∷ ws) (x ∷ xs) [] h k = absurd k
 texts_same files (w ∷ ws) (x ∷ xs) (y ∷ ys) h k =
     ap₂ (λ a l. a ∷ l) (had_same files w.name x y w.most w.most h.0 k.0) (texts_same files ws xs ys h.1 k.1)
 
-
 -- a file that has too many bytes
 pub record IsLarge (files : Files) (w : Wanted) : Type 0 where
   pub text : Text

@@ -1,5 +1,5 @@
 -- A job that doesn't begin: its files aren't had, or what they hold is refused.
-use Rattle.std.proofs.Common.{◌≡◌, ℕ, List, Option, Result, Ok, Err, IfSome, MatchResult}
+use Rattle.std.proofs.Common.{◌≡◌, ℕ, List, Result, Ok, Err, MatchResult}
 use Rattle.base_io.specs.Files.{Files}
 use Rattle.job_files.specs.Answers.{Answer, IsRefusedFor, answer_of, no_memory, refused}
 use Rattle.job_files.specs.Reads.{AreNotHad, CountsReading, CountsUnhad, ReadingCauses, Wanted}

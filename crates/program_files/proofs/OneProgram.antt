@@ -2,7 +2,7 @@
 use Rattle.std.proofs.Common.{◌≡◌, ◌∙◌, sym, ap, refl}
 use Rattle.base_io.specs.declared.place.Place.{Place}
 use Rattle.c_tree.specs.declared.tree.Program.{Program}
-use Rattle.program_texts.specs.Front.{HasFault, IsTextOf}
+use Rattle.program_texts.specs.Front.{IsTextOf}
 use Rattle.program_texts.specs.declared.fault.ProgramFault.{ProgramFault}
 use Rattle.program_texts.specs.declared.fault.ProgramFault.TheVariants.{Refused, Memory}
 use Rattle.program_texts.specs.declared.fault.ProgramRefusal.{ProgramRefusal as TextRefusal}

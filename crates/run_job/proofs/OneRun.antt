@@ -1,7 +1,7 @@
 -- A run of files and boxes comes to one answer at most, if no box fails.
-use Rattle.std.proofs.Common.{◌≡◌, ◌+◌, ℕ, List, [], ◌∷◌, Option, Some, None, sym, subst, ap, ap₂, ◌∙◌, refl, inl, inr}
+use Rattle.std.proofs.Common.{◌≡◌, ℕ, List, [], ◌∷◌, Option, Some, None, sym, subst, ap, ap₂, ◌∙◌, refl, inl, inr}
 use Rattle.base_io.specs.Files.{Files}
-use Rattle.job_parts.specs.Input.{SpellsInput, bad_piece, pieces_of}
+use Rattle.job_parts.specs.Input.{bad_piece, pieces_of}
 use Rattle.msp430_machine.specs.declared.answer.Refill.{Refill}
 use Rattle.supply_trace.specs.Rows.{SpellsRows, bad_line, lines_of}
 use Rattle.supplied_run.specs.declared.end.End.{End}
@@ -41,7 +41,6 @@ each_or (n ∷ names) [] rows name at h g = g
 each_or (n ∷ names) (t ∷ texts) [] name at h g = h
 each_or (n ∷ names) (t ∷ texts) (r ∷ rows) name at h (inl bad) = rows_or t r at h.0 bad.1
 each_or (n ∷ names) (t ∷ texts) (r ∷ rows) name at h (inr more) = each_or names texts rows name at h.1 more.1
-
 
 supply_same : (names texts : List Text) (m n : Text) (k l : ℕ) → IsBadSupply names texts m k → IsBadSupply names texts n l → text_refused m k ≡ text_refused n l
 supply_same [] texts m n k l h g = absurd h

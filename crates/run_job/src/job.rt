@@ -1,5 +1,5 @@
 //! What a run is asked to do.
-ghost use Rattle.std.specs.Prelude.{◌≤◌, ◌<◌, IfSome, length};
+ghost use Rattle.std.specs.Prelude.{◌≤◌, IfSome};
 ghost use Rattle.std.proofs.Props.{props};
 
 /// A run of an image on an input under supplies.

@@ -1,9 +1,6 @@
 //! What the texts of a run hold.
-ghost use Rattle.std.specs.Prelude.{◌≡◌, IfOk, MatchResult, length, map};
-ghost use Rattle.job_parts.specs.Input.{SpellsInput, bad_piece, pieces_of};
-ghost use Rattle.supply_trace.specs.Rows.{SpellsRows, bad_line, lines_of};
-ghost use Rattle.ti_txt.specs.Bytes.{blocks_of};
-ghost use Rattle.ti_txt.specs.Grammar.{Holds};
+ghost use Rattle.std.specs.Prelude.{◌≡◌, MatchResult, length, map};
+ghost use Rattle.supply_trace.specs.Rows.{SpellsRows};
 ghost use Rattle.job_files.specs.Answers.{IsRefusedFor, answer_of};
 ghost use Rattle.job_files.specs.Inputs.{RefusesText};
 ghost use Rattle.run_job.specs.InCode.{held_in, run_named, texts_seen};

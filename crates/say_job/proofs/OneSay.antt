@@ -1,5 +1,5 @@
 -- A say of files comes to one answer at most.
-use Rattle.std.proofs.Common.{◌≡◌, ◌+◌, ℕ, List, [], ◌∷◌, Option, Some, sym, subst, ap, ap₂, ◌∙◌, refl}
+use Rattle.std.proofs.Common.{◌≡◌, ℕ, List, Some, sym, subst, ap, ap₂, ◌∙◌, refl}
 use Rattle.base_io.specs.Files.{Files}
 use Rattle.base_io.specs.declared.place.Place.{Place}
 use Rattle.c_tree.specs.Meaning.{meaning}

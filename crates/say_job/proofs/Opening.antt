@@ -1,5 +1,5 @@
 -- What is read of both files of a say comes to one answer.
-use Rattle.std.proofs.Common.{◌≡◌, ℕ, Option, Some, None, Result, Ok, Err, subst, IfSome, MatchResult, sym}
+use Rattle.std.proofs.Common.{◌≡◌, ℕ, Option, Result, Ok, Err, subst, IfSome, MatchResult, sym}
 use Rattle.base_io.specs.Files.{Files}
 use Rattle.c_tree.specs.declared.tree.Program.{Program}
 use Rattle.program_texts.specs.Front.{IsTextOf}

@@ -1,5 +1,5 @@
 //! The plain meaning of a program on an input, from its files to its end.
-ghost use Rattle.std.specs.Prelude.{◌≡◌, ◌≤◌, [], IfOk, IfSome, MatchResult, length, string_bytes};
+ghost use Rattle.std.specs.Prelude.{◌≡◌, ◌≤◌, IfOk, IfSome, MatchResult, length, string_bytes};
 ghost use Rattle.job_files.specs.Answers.{IsRefusedFor, answer_of};
 ghost use Rattle.job_files.specs.Reads.{CountsReading, most_program};
 ghost use Rattle.job_files.specs.Text.{output};
@@ -64,7 +64,14 @@ pub fn open_say<S: Store>(alloc: Global, job: &SayJob, store: &mut S) -> Result<
         (λ s. S.read_faults store.new ≡ S.read_faults store.old)
         (λ status. CountsReading (say_files (say_named job.now)) (RefusesSay (say_named job.now)) (S.read_faults store.old) (S.read_faults store.new) (S.bad_name store.new) (answer_of status)) }
 {
-    match read_two(alloc, job.program, MOST_PROGRAM, job.input, MOST_INPUT, store) {
+    match read_two(
+        alloc,
+        job.program,
+        MOST_PROGRAM,
+        job.input,
+        MOST_INPUT,
+        store,
+    ) {
         Ok(texts) => contents_of(alloc, job, &texts.first, &texts.second),
         Err(status) => Err(status),
     }
