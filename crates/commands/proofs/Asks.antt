@@ -1,7 +1,11 @@
 -- Words ask for one job.
 use Rattle.std.proofs.Common.{◌≡◌, ◌⊎◌, ℕ, List, Option, Some, None, ap, ap₂, sym, ◌∙◌, inl, inr, true≢false}
 use Rattle.job_parts.specs.Asked.{Request, asked, build, run, say}
-use Rattle.commands.specs.Words.{Text, Build, Run, Say, AskBuild, AskRun, AskSay, AskUnbuilt, is_built}
+use Rattle.job_files.specs.Text.{Text}
+use Rattle.build_job.specs.Build.{Build}
+use Rattle.run_job.specs.Run.{Run}
+use Rattle.say_job.specs.Say.{Say}
+use Rattle.commands.specs.Words.{AskBuild, AskRun, AskSay, AskUnbuilt, is_built}
 
 pub some_none : (o : Option Request) (r : Request) → o ≡ Some r → o ≡ None → ⊥
 some_none o r e n = cc
@@ -47,3 +51,66 @@ pub one_say : (words : List Text) (a b : Say) → AskSay words a → AskSay word
 one_say words a b e f =
     let same = same_request (say_request a e.budget) (say_request b f.budget) (sym e.asks ∙ f.asks) in
     ap₂ say_from (same_say_files a.program a.input b.program b.input (ap (λ (r : Request). r.task) same)) (ap (λ (r : Request). r.steps) same)
+
+-- ---- Builds and runs
+
+abbrev build_request : Build → ℕ → Request
+build_request job steps = record { task = build job.program job.board job.image job.certificate; budget = job.budget; steps = steps }
+
+abbrev Four : Type 0
+Four = Text × Text × Text × Text
+
+abbrev build_from : Four → Option ℕ → Build
+build_from v budget = record { program = v.0; board = v.1; image = v.2; certificate = v.3; budget = budget }
+
+same_files : (p b i c q d j k : Text) → build p b i c ≡ build q d j k → (let x : Four = (p, b, i, c) in x ≡ (q, d, j, k))
+same_files p b i c q d j k e = cc
+
+-- words that ask for a build are refused for nothing
+pub asks_once : (words : List Text) (job : Build) → AskBuild words job → (asked words ≡ None) ⊎ AskUnbuilt words → ⊥
+asks_once words job e (inl none) = some_none (asked words) (build_request job e.steps) e.asks none
+asks_once words job e (inr u) =
+    true≢false (ap (λ (r : Request). is_built r.task) (same_request (build_request job e.steps) u.request (sym e.asks ∙ u.asks)) ∙ u.unbuilt)
+
+abbrev run_request : Run → Request
+run_request job = record { task = run job.image job.board job.input job.supplies; budget = job.budget; steps = job.steps }
+
+-- the same of words that ask for a run
+pub run_asks_once : (words : List Text) (job : Run) → AskRun words job → (asked words ≡ None) ⊎ AskUnbuilt words → ⊥
+run_asks_once words job e (inl none) = some_none (asked words) (run_request job) e.asks none
+run_asks_once words job e (inr u) =
+    true≢false (ap (λ (r : Request). is_built r.task) (same_request (run_request job) u.request (sym e.asks ∙ u.asks)) ∙ u.unbuilt)
+
+-- words that ask for a build ask for no run
+pub build_or_run : (words : List Text) (job : Build) (other : Run) → AskBuild words job → AskRun words other → ⊥
+build_or_run words job other e f =
+    apart (ap (λ (r : Request). r.task) (same_request (build_request job e.steps) (run_request other) (sym e.asks ∙ f.asks)))
+  where
+    apart : build job.program job.board job.image job.certificate ≡ run other.image other.board other.input other.supplies → ⊥
+    apart same = cc
+
+abbrev RunFiles : Type 0
+RunFiles = Text × Text × Text × List Text
+
+abbrev run_from : RunFiles → Option ℕ → ℕ → Run
+run_from v budget steps = record { image = v.0; board = v.1; input = v.2; supplies = v.3; budget = budget; steps = steps }
+
+same_run_files : (i b n j c o : Text) (s t : List Text) → run i b n s ≡ run j c o t → (let x : RunFiles = (i, b, n, s) in x ≡ (j, c, o, t))
+same_run_files i b n j c o s t e = cc
+
+-- words ask for one run
+pub one_run : (words : List Text) (a b : Run) → AskRun words a → AskRun words b → a ≡ b
+one_run words a b e f =
+    let same = same_request (run_request a) (run_request b) (sym e.asks ∙ f.asks) in
+    let files = same_run_files a.image a.board a.input b.image b.board b.input a.supplies b.supplies (ap (λ (r : Request). r.task) same) in
+    ap (λ (v : RunFiles). run_from v a.budget a.steps) files
+    ∙ ap (λ (o : Option ℕ). run_from (b.image, b.board, b.input, b.supplies) o a.steps) (ap (λ (r : Request). r.budget) same)
+    ∙ ap (λ (n : ℕ). run_from (b.image, b.board, b.input, b.supplies) b.budget n) (ap (λ (r : Request). r.steps) same)
+
+-- words ask for one build
+pub one_build : (words : List Text) (a b : Build) → AskBuild words a → AskBuild words b → a ≡ b
+one_build words a b e f =
+    let same = same_request (build_request a e.steps) (build_request b f.steps) (sym e.asks ∙ f.asks) in
+    ap₂ build_from
+    (same_files a.program a.board a.image a.certificate b.program b.board b.image b.certificate (ap (λ (r : Request). r.task) same))
+    (ap (λ (r : Request). r.budget) same)

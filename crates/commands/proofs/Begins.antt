@@ -4,20 +4,25 @@ use Rattle.std.specs.Prelude.{string_bytes}
 use Rattle.base_io.specs.declared.memory.Memory.{Memory}
 use Rattle.job_parts.specs.Asked.{Request, Task, asked, build, check, run, say, plan, gen}
 use Rattle.msp430_machine.specs.Views.{state_of}
-use Rattle.commands.specs.Answers.{Answer, answer_of, line_of, usage, no_memory, not_built}
-use Rattle.commands.specs.Begun.{FitBoxes, FitsBoxes, GivesUp, MatchBegun, MayRun, Opens, Speaks, TaskGivesUp, TaskRuns, TaskSays, WordsGiveUp}
-use Rattle.commands.specs.Call.{Called, ComesTo, IsRefusedAtOnce, Puts, Sunk, TaskEnds}
-use Rattle.commands.specs.Job.{Ends as BuildEnds, IsUnwritten, Seen}
+use Rattle.commands.specs.declared.call.Beginning.TheVariants.{Ends, Runs, Says}
+use Rattle.job_files.specs.Answers.{Answer, answer_of, line_of, no_memory, not_built, usage}
+use Rattle.job_files.specs.Output.{Puts, Sunk}
+use Rattle.job_files.specs.Stores.{IsUnwritten, Seen}
+use Rattle.job_files.specs.Text.{Text}
+use Rattle.build_job.specs.Build.{Build}
+use Rattle.build_job.specs.Ends.{BuildEnds}
+use Rattle.run_job.specs.Boxes.{Box, FitBoxes}
+use Rattle.run_job.specs.Ends.{IsShown, RunEnds, RunRefuses}
+use Rattle.run_job.specs.Opening.{GivesUp, MayRun}
+use Rattle.run_job.specs.Run.{Run}
+use Rattle.run_job.specs.declared.opened_run.OpenedRun.{OpenedRun}
+use Rattle.run_job.proofs.Opening.{has_run_of}
+use Rattle.commands.specs.Beginnings.{FitsBoxes, MatchBeginning, Opens, Speaks, TaskGivesUp, TaskRuns, TaskSays, WordsGiveUp}
+use Rattle.commands.specs.Call.{Called, ComesTo, IsRefusedAtOnce, TaskEnds}
 use Rattle.commands.specs.Refusing.{IsRefusal}
-use Rattle.commands.specs.RunJob.{IsShown, RunEnds, RunRefuses}
-use Rattle.commands.specs.Running.{Box}
-use Rattle.commands.specs.Words.{Text, Build, Run, is_built}
-use Rattle.commands.specs.declared.session.Session.{Session}
-use Rattle.commands.specs.declared.status.Unbuilt.TheVariants.{Words}
-use Rattle.commands.specs.declared.top.Begun.{Begun}
-use Rattle.commands.specs.declared.top.Begun.TheVariants.{Ends, Runs, Says}
+use Rattle.commands.specs.Words.{is_built}
+use Rattle.commands.specs.declared.call.Beginning.{Beginning}
 use Rattle.commands.proofs.Dispatch.{refused_partly}
-use Rattle.commands.proofs.Opening.{has_run_of}
 
 module _ (words : List Text) (old new : Seen) (before now : List Box) (sunk after : Sunk) (a : Answer) where
   -- the line of an ending was put
@@ -34,13 +39,13 @@ module _ (words : List Text) (old new : Seen) (before now : List Box) (sunk afte
   })
 
   -- a run that may begin, and what was shown of it
-  pub run_call : (mid : List Box) (session : Session) → Opens words old new before mid session
-      → IsShown session.board session.input.items session.steps (state_of session.core.machine) mid now sunk.told after.told sunk.faults after.faults a
+  pub run_call : (mid : List Box) (opened : OpenedRun) → Opens words old new before mid opened
+      → IsShown opened.board opened.input.items opened.steps (state_of opened.core.machine) mid now sunk.told after.told sunk.faults after.faults a
       → Called words old new before now sunk after a
-  run_call mid session (job, asks, may) shown = inr (inl (record {
+  run_call mid opened (job, asks, may) shown = inr (inl (record {
     job = job;
     asks = asks;
-    has_run = has_run_of job old new before mid now session sunk.told after.told sunk.faults after.faults a may shown;
+    has_run = has_run_of job old new before mid now opened sunk.told after.told sunk.faults after.faults a may shown;
   }))
 
 -- words without a reading
@@ -59,11 +64,11 @@ run_ends job old new before now refusal a line h is tells = record {
 }
 
 -- what a task comes to before anything is put
-abbrev pub TaskBegins : Task → Option ℕ → ℕ → Seen → Seen → List Box → List Box → Result Begun Memory → Type 0
+abbrev pub TaskBegins : Task → Option ℕ → ℕ → Seen → Seen → List Box → List Box → Result Beginning Memory → Type 0
 TaskBegins t budget steps old new before now r =
     MatchResult r
-    (λ b. MatchBegun b (λ ending. TaskEnds t budget steps old new before now (answer_of ending.status) (string_bytes ending.line))
-    (λ session. TaskRuns t budget steps old new before now session) (λ saying. TaskSays t steps old new before now saying))
+    (λ b. MatchBeginning b (λ ending. TaskEnds t budget steps old new before now (answer_of ending.status) (string_bytes ending.line))
+    (λ opened. TaskRuns t budget steps old new before now opened) (λ opened. TaskSays t steps old new before now opened))
     (λ m. TaskGivesUp t old new before now)
 
 -- nothing was touched
@@ -82,19 +87,19 @@ task_gives_up (plan p b) old before = (untouched old, refl)
 task_gives_up (gen n m b) old before = (untouched old, refl)
 
 -- a refusal of words without a reading
-pub usage_begins : (words : List Text) (old : Seen) (before : List Box) → asked words ≡ None → (r : Result Begun Memory) → IsRefusal usage r
+pub usage_begins : (words : List Text) (old : Seen) (before : List Box) → asked words ≡ None → (r : Result Beginning Memory) → IsRefusal usage r
     → MatchResult r
-    (λ b. MatchBegun b (λ ending. ComesTo (asked words) old old before before (answer_of ending.status) (string_bytes ending.line))
-    (λ session. Opens words old old before before session) (λ saying. Speaks words old old before before saying))
+    (λ b. MatchBeginning b (λ ending. ComesTo (asked words) old old before before (answer_of ending.status) (string_bytes ending.line))
+    (λ opened. Opens words old old before before opened) (λ opened. Speaks words old old before before opened))
     (λ m. WordsGiveUp words old old before before)
 usage_begins words old before e (Ok (Ends ending)) h = usage_comes words old before (answer_of ending.status) (string_bytes ending.line) e h.0 h.1
-usage_begins words old before e (Ok (Runs session)) h = absurd h
-usage_begins words old before e (Ok (Says saying)) h = absurd h
+usage_begins words old before e (Ok (Runs opened)) h = absurd h
+usage_begins words old before e (Ok (Says opened)) h = absurd h
 usage_begins words old before e (Err m) h = gives_up words old before
 
 -- a refusal of a job that isn't built
 at_once : (t : Task) (budget : Option ℕ) (steps : ℕ) (old : Seen) (before : List Box) (a : Answer) (line : Text) → is_built t ≡ false
-    → IsRefusedAtOnce (not_built Words) old old a line → TaskEnds t budget steps old old before before a line
+    → IsRefusedAtOnce not_built old old a line → TaskEnds t budget steps old old before before a line
 at_once (check image certificate board) budget steps old before a line e h = (h, refl)
 at_once (plan program board) budget steps old before a line e h = (h, refl)
 at_once (gen seed size board) budget steps old before a line e h = (h, refl)
@@ -102,54 +107,54 @@ at_once (build program board image certificate) budget steps old before a line e
 at_once (run image board input supplies) budget steps old before a line e h = absurd (true≢false e)
 at_once (say program input) budget steps old before a line e h = absurd (true≢false e)
 
-pub unbuilt_begins : (t : Task) (budget : Option ℕ) (steps : ℕ) (old : Seen) (before : List Box) → is_built t ≡ false → (r : Result Begun Memory) → IsRefusal (not_built Words) r
+pub unbuilt_begins : (t : Task) (budget : Option ℕ) (steps : ℕ) (old : Seen) (before : List Box) → is_built t ≡ false → (r : Result Beginning Memory) → IsRefusal not_built r
     → TaskBegins t budget steps old old before before r
 unbuilt_begins t budget steps old before e (Ok (Ends ending)) h =
     at_once t budget steps old before (answer_of ending.status) (string_bytes ending.line) e
     (record { answer = h.0; files = refl; writes = refl; reads = refl; tells = h.1 ∙ ap (λ (x : Answer). line_of [] x) (sym h.0) })
-unbuilt_begins t budget steps old before e (Ok (Runs session)) h = absurd h
-unbuilt_begins t budget steps old before e (Ok (Says saying)) h = absurd h
+unbuilt_begins t budget steps old before e (Ok (Runs opened)) h = absurd h
+unbuilt_begins t budget steps old before e (Ok (Says opened)) h = absurd h
 unbuilt_begins t budget steps old before e (Err m) h = task_gives_up t old before
 
 -- a build
 module _ (job : Build) (steps : ℕ) (old new : Seen) (before : List Box) where
-  abbrev pub BuildBegins : Result Begun Memory → Type 0
+  abbrev pub BuildBegins : Result Beginning Memory → Type 0
   BuildBegins r =
       MatchResult r
-      (λ b. MatchBegun b (λ ending. BuildEnds job old new (answer_of ending.status) (string_bytes ending.line)) (λ session. ⊥) (λ saying. ⊥))
+      (λ b. MatchBeginning b (λ ending. BuildEnds job old new (answer_of ending.status) (string_bytes ending.line)) (λ opened. ⊥) (λ opened. ⊥))
       (λ m. IsUnwritten old new)
 
-  build_task : (r : Result Begun Memory) → BuildBegins r → TaskBegins (build job.program job.board job.image job.certificate) job.budget steps old new before before r
+  build_task : (r : Result Beginning Memory) → BuildBegins r → TaskBegins (build job.program job.board job.image job.certificate) job.budget steps old new before before r
   build_task (Ok (Ends ending)) h = (h, refl)
-  build_task (Ok (Runs session)) h = absurd h
-  build_task (Ok (Says saying)) h = absurd h
+  build_task (Ok (Runs opened)) h = absurd h
+  build_task (Ok (Says opened)) h = absurd h
   build_task (Err m) h = (h, refl)
 
-  pub build_comes : (t : Task) → t ≡ build job.program job.board job.image job.certificate → (r : Result Begun Memory) → BuildBegins r → TaskBegins t job.budget steps old new before before r
+  pub build_comes : (t : Task) → t ≡ build job.program job.board job.image job.certificate → (r : Result Beginning Memory) → BuildBegins r → TaskBegins t job.budget steps old new before before r
   build_comes t is r h = subst (λ (x : Task). TaskBegins x job.budget steps old new before before r) (sym is) (build_task r h)
 
 -- a run
 module _ (job : Run) (old new : Seen) (before now : List Box) where
-  abbrev pub RunBegins : Result Begun Memory → Type 0
+  abbrev pub RunBegins : Result Beginning Memory → Type 0
   RunBegins r =
       MatchResult r
-      (λ b. MatchBegun b (λ ending. RunEnds job old new before now (answer_of ending.status) (string_bytes ending.line)) (λ session. MayRun job old new before now session) (λ saying. ⊥))
+      (λ b. MatchBeginning b (λ ending. RunEnds job old new before now (answer_of ending.status) (string_bytes ending.line)) (λ opened. MayRun job old new before now opened) (λ opened. ⊥))
       (λ m. GivesUp old new before now)
 
-  run_task : (r : Result Begun Memory) → RunBegins r → TaskBegins (run job.image job.board job.input job.supplies) job.budget job.steps old new before now r
+  run_task : (r : Result Beginning Memory) → RunBegins r → TaskBegins (run job.image job.board job.input job.supplies) job.budget job.steps old new before now r
   run_task (Ok (Ends ending)) h = h
-  run_task (Ok (Runs session)) h = h
-  run_task (Ok (Says saying)) h = absurd h
+  run_task (Ok (Runs opened)) h = h
+  run_task (Ok (Says opened)) h = absurd h
   run_task (Err m) h = h
 
-  pub run_comes : (t : Task) → t ≡ run job.image job.board job.input job.supplies → (r : Result Begun Memory) → RunBegins r → TaskBegins t job.budget job.steps old new before now r
+  pub run_comes : (t : Task) → t ≡ run job.image job.board job.input job.supplies → (r : Result Beginning Memory) → RunBegins r → TaskBegins t job.budget job.steps old new before now r
   run_comes t is r h = subst (λ (x : Task). TaskBegins x job.budget job.steps old new before now r) (sym is) (run_task r h)
 
   -- a run that is refused
-  pub run_refused : (a : Answer) → RunRefuses job old new before now a → (r : Result Begun Memory) → IsRefusal a r → RunBegins r
+  pub run_refused : (a : Answer) → RunRefuses job old new before now a → (r : Result Beginning Memory) → IsRefusal a r → RunBegins r
   run_refused a h (Ok (Ends ending)) told = run_ends job old new before now a (answer_of ending.status) (string_bytes ending.line) h told.0 told.1
-  run_refused a h (Ok (Runs session)) told = absurd told
-  run_refused a h (Ok (Says saying)) told = absurd told
+  run_refused a h (Ok (Runs opened)) told = absurd told
+  run_refused a h (Ok (Says opened)) told = absurd told
   run_refused a h (Err m) told = refused_partly job old new before now a h
 
 -- each supply of a run has a box, where the words have one

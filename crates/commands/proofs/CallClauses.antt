@@ -2,19 +2,21 @@
 use Rattle.std.proofs.Common.{◌≡◌, ◌<◌, ◌⊎◌, List, sym, subst, ◌∙◌, refl, inl, inr, ⊎_elim, IfSome}
 use Rattle.base_io.specs.Counts.{Rose}
 use Rattle.base_io.specs.Files.{Files}
-use Rattle.commands.specs.Words.{Text}
-use Rattle.commands.specs.Answers.{Answer, done, usage, read_fault, write_fault, no_memory, board_refused, too_large, not_built, needs_checkpoint, image_refused, program_refused, text_refused, stopped}
-use Rattle.commands.specs.Causes.{HasCause, output}
+use Rattle.job_files.specs.Answers.{Answer, IsDecided, no_memory, read_fault, stopped, write_fault}
+use Rattle.job_files.specs.Output.{IsFailedPut, IsNotPut, IsWholePut, Sunk}
+use Rattle.job_files.specs.Stores.{Seen}
+use Rattle.job_files.specs.Text.{Text, output}
+use Rattle.job_files.proofs.Telling.{fill, grew_not, map_told}
+use Rattle.run_job.specs.Boxes.{Box}
+use Rattle.commands.specs.Call.{IsToldInOneLine}
+use Rattle.commands.specs.Causes.{HasCause}
+use Rattle.commands.specs.Faults.{IsComplete, IsReadFaultOrFree, IsWriteFault, NoBoxRose, ReadFaultIs, SupplyFaultIs, TooLargeIs, WordsAre, WriteFaultIs}
 use Rattle.commands.specs.Left.{LeavesTold}
-use Rattle.commands.specs.Faults.{IsComplete, IsDecided, IsReadFaultOrFree, IsWriteFault, NoBoxRose, ReadFaultIs, SupplyFaultIs, TooLargeIs, WordsAre, WriteFaultIs}
-use Rattle.commands.specs.Job.{Seen}
-use Rattle.commands.specs.Running.{Box}
-use Rattle.commands.specs.Call.{IsFailedPut, IsNotPut, IsWholePut, Ran, Sunk}
-use Rattle.commands.proofs.Clauses.{IsLine, came_cause, came_failed, came_large, came_leaves, came_leaves_failed, came_line, came_read, came_read_rose, came_supply, came_words, came_write, came_write_rose, came_wrote}
-use Rattle.commands.proofs.Told.{fill, grew_not, map_told}
+use Rattle.commands.proofs.Clauses.{came_cause, came_failed, came_large, came_leaves, came_leaves_failed, came_line, came_read, came_read_rose, came_supply, came_words, came_write, came_write_rose, came_wrote}
 use Rattle.commands.proofs.OneCause.{decide_one}
+use Rattle.commands.proofs.Reading.{IsLine}
 
-module _ (words : List Text) (old new : Seen) (before left : List Box) (sunk now : Sunk) (a : Answer) (r : Ran words old new before left sunk now a) where
+module _ (words : List Text) (old new : Seen) (before left : List Box) (sunk now : Sunk) (a : Answer) (r : IsToldInOneLine words old new before left sunk now a) where
   -- the line was put, the output failed, or there was no memory for its name
   by_puts : (P : Type 0) → (IsWholePut r.came r.line sunk now a → P) → (IsFailedPut r.line sunk now a → P) → (IsNotPut sunk now a → r.came ≡ no_memory → P) → P
   by_puts P f g h = ⊎_elim (λ puts. ⊎_elim f g puts) (λ n. h n.0 n.1) r.puts
@@ -104,16 +106,8 @@ module _ (words : List Text) (old new : Seen) (before left : List Box) (sunk now
   free_or_decided (read_fault name) is read still kept = absurd (still read.0)
   free_or_decided (write_fault name) is read still kept = absurd (kept (came_wrote words old new before left r.came r.line r.comes name is))
   free_or_decided no_memory is read still kept = inl refl
-  free_or_decided done is read still kept = inr tt
-  free_or_decided usage is read still kept = inr tt
-  free_or_decided (board_refused kind key) is read still kept = inr tt
-  free_or_decided (too_large name seen) is read still kept = inr tt
-  free_or_decided (not_built what) is read still kept = inr tt
-  free_or_decided (needs_checkpoint need budget) is read still kept = inr tt
-  free_or_decided (program_refused fault place) is read still kept = inr tt
-  free_or_decided (image_refused fault at) is read still kept = inr tt
-  free_or_decided (text_refused name at) is read still kept = inr tt
   free_or_decided (stopped stop) is read still kept = absurd (subst IsLine is (came_line words old new before left r.came r.line r.comes))
+  free_or_decided x is read still kept = inr tt
 
   came_complete : ¬ Rose old.reads new.reads → ¬ Rose old.writes new.writes → a ≡ r.came → (f : Files) → HasCause words f before r.came → IsComplete words f before a
   came_complete still kept e f h b d k =

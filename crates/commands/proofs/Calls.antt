@@ -2,18 +2,21 @@
 use Rattle.std.proofs.Common.{◌≡◌, ◌<◌, List, IfSome, inl, inr, subst}
 use Rattle.base_io.specs.Counts.{Rose}
 use Rattle.emit_layout.specs.StraightTheorem.{AreStraightHeld, AreStraightImages, TypedImagesAgree, TypedImagesEndure}
-use Rattle.commands.specs.Words.{Text, Build, AskBuild}
-use Rattle.commands.specs.Answers.{Answer, done, write_fault}
-use Rattle.commands.specs.Call.{Called, Sunk}
-use Rattle.commands.specs.Causes.{HasCause, output}
-use Rattle.commands.specs.Faults.{IsComplete, IsReadFaultOrFree, IsWriteFault, NoBoxRose, ReadFaultIs, SupplyFaultIs, TooLargeIs, WordsAre, WriteFaultIs}
-use Rattle.commands.specs.Headline.{IsKeptTold}
-use Rattle.commands.specs.Job.{Seen}
-use Rattle.commands.specs.Left.{LeavesTold}
-use Rattle.commands.specs.Running.{Box}
 use Rattle.commands.proofs.CallClauses as line
 use Rattle.commands.proofs.RunClauses as runs
 use Rattle.commands.proofs.SpokenClauses as says
+use Rattle.job_files.specs.Answers.{Answer, done, write_fault}
+use Rattle.job_files.specs.Output.{Sunk}
+use Rattle.job_files.specs.Stores.{Seen}
+use Rattle.job_files.specs.Text.{Text, output}
+use Rattle.build_job.specs.Build.{Build}
+use Rattle.run_job.specs.Boxes.{Box}
+use Rattle.commands.specs.Call.{Called}
+use Rattle.commands.specs.Causes.{HasCause}
+use Rattle.commands.specs.Faults.{IsComplete, IsReadFaultOrFree, IsWriteFault, NoBoxRose, ReadFaultIs, SupplyFaultIs, TooLargeIs, WordsAre, WriteFaultIs}
+use Rattle.commands.specs.Headline.{IsKeptTold}
+use Rattle.commands.specs.Left.{LeavesTold}
+use Rattle.commands.specs.Words.{AskBuild}
 use Rattle.commands.proofs.Kept.{kept_told}
 
 module _ (words : List Text) (old new : Seen) (before left : List Box) (sunk now : Sunk) (a : Answer) where

@@ -3,12 +3,13 @@ use Rattle.std.proofs.Common.{List, Option, Some, None, ⊎_elim}
 use Rattle.base_io.specs.Files.{Files}
 use Rattle.emit_layout.specs.Straight.{straight_blocks}
 use Rattle.emit_layout.specs.StraightTheorem.{AreStraightHeld, AreStraightImages, TypedImagesAgree, TypedImagesEndure}
-use Rattle.commands.specs.Words.{Text, Build, AskBuild}
-use Rattle.commands.specs.Answers.{done}
-use Rattle.commands.specs.Left.{AskedAndBuilt, LeavesTold}
+use Rattle.job_files.specs.Answers.{done}
+use Rattle.job_files.specs.Text.{Text}
+use Rattle.build_job.specs.Build.{Build}
 use Rattle.commands.specs.Headline.{IsKept, IsKeptTold}
-use Rattle.commands.proofs.Asks.{build_or_say}
-use Rattle.commands.proofs.Clauses.{build_or_run}
+use Rattle.commands.specs.Left.{AskedAndBuilt, LeavesTold}
+use Rattle.commands.specs.Words.{AskBuild}
+use Rattle.commands.proofs.Asks.{build_or_run, build_or_say}
 
 module _ (agree : TypedImagesAgree) (endure : TypedImagesEndure) (images : AreStraightImages) (held : AreStraightHeld) (words : List Text) where
   kept : (old new : Files) → AskedAndBuilt words old new → IsKept words old new
@@ -16,11 +17,11 @@ module _ (agree : TypedImagesAgree) (endure : TypedImagesEndure) (images : AreSt
     job = job;
     asks = e;
     text = b.text;
-    program_file = b.read.program.there;
+    program_file = b.read.0.there;
     program = b.fine.program.program;
     is_program = b.fine.program.is_text;
     bytes = b.bytes;
-    board_file = b.read.board.there;
+    board_file = b.read.1.0.there;
     board = b.board;
     is_board = b.fine.board_file;
     image = straight_blocks b.statements;

@@ -1,60 +1,62 @@
--- What is read of both files comes to one answer.
-use Rattle.std.proofs.Common.{◌≡◌, ◌*◌, ℕ, Option, Some, None, Result, Ok, Err, IfSome, MatchResult, IfOk}
-use Rattle.std.specs.Prelude.{string_bytes}
+-- What a job that didn't begin says of each clause of the public call: not all of its files were had, or what they hold was refused.
+use Rattle.std.proofs.Common.{◌≡◌, ◌<◌, ◌⊎◌, ℕ, List, Option, None}
 use Rattle.base_io.specs.Files.{Files}
-use Rattle.commands.specs.Words.{Text, Build}
-use Rattle.commands.specs.Answers.{Answer, answer_of, built_line, done, usage, read_fault, write_fault, no_memory, board_refused, too_large, not_built, needs_checkpoint, image_refused, program_refused, text_refused, stopped}
-use Rattle.commands.specs.Causes.{AreRead, Causes, IsRead, IsRefused}
-use Rattle.commands.specs.Parts.{IsReady, IsReadyOf}
-use Rattle.commands.specs.Job.{code_size}
-use Rattle.emit_layout.specs.Operations.{objects_of}
-use Rattle.emit_layout.specs.Straight.{straight_blocks}
-use Rattle.commands.specs.declared.build.Ready.{Ready}
-use Rattle.commands.specs.declared.status.Status.{Status}
-use Rattle.commands.specs.declared.status.Unbuilt.TheVariants.{Words, Program}
+use Rattle.job_parts.specs.Asked.{asked}
+use Rattle.job_files.specs.Answers.{Answer, done, no_memory, not_built, read_fault, refused, stopped, too_large, usage, write_fault}
+use Rattle.job_files.specs.Reads.{CountsReading, IsAmong, Wanted}
+use Rattle.job_files.specs.Refusals.{Refusal}
+use Rattle.job_files.specs.Text.{Text}
+use Rattle.job_files.proofs.Telling.{grew_not}
+use Rattle.run_job.specs.Boxes.{Box}
+use Rattle.commands.specs.Faults.{IsReadFaultOrFree, IsToRead, ReadFaultIs, SupplyFaultIs, TooLargeIs, WordsAre, WriteFaultIs}
+use Rattle.commands.specs.Left.{LeavesTold}
+use Rattle.commands.specs.Words.{AskUnbuilt}
+use Rattle.commands.proofs.Told.{same_told}
 
-module _ (job : Build) (files : Files) (text bytes : Text) (read : AreRead job files text bytes) where
-  refused : (a : Answer) → IsRefused job.budget text bytes a → Causes job files a
-  refused (not_built Program) h = (text, bytes, read, h)
-  refused (not_built Words) h = h
-  refused (board_refused kind key) h = (text, bytes, read, h)
-  refused (needs_checkpoint need budget) h = (text, bytes, read, h)
-  refused no_memory h = tt
-  refused done h = absurd h
-  refused usage h = absurd h
-  refused (read_fault name) h = absurd h
-  refused (write_fault name) h = absurd h
-  refused (too_large name seen) h = absurd h
-  refused (program_refused fault place) h = (text, bytes, read, h)
-  refused (image_refused fault at) h = absurd h
-  refused (text_refused name at) h = absurd h
-  refused (stopped stop) h = absurd h
+-- the words ask for a job that reads these files
+pub record AskReading (words : List Text) (ws : List Wanted) : Type 0 where
+  pub reads : (w : Wanted) → IsAmong ws w → IsToRead words w
+  pub once : (asked words ≡ None) ⊎ AskUnbuilt words → ⊥
 
-  joined : (r : Result Ready Status) →
-      MatchResult r (λ x. IsReadyOf job.budget text bytes x.text.items (string_bytes x.line)) (λ s. IsRefused job.budget text bytes (answer_of s)) →
-      MatchResult r (λ x. IsReady job files x.text.items (string_bytes x.line)) (λ s. Causes job files (answer_of s))
-  joined (Ok x) h = record {
-    program = text;
-    bytes = bytes;
-    statements = h.statements;
-    board = h.board;
-    read = read;
-    fine = h.fine;
-    spelled = h.spelled;
-    tells = h.tells;
-  }
-  joined (Err s) h = refused (answer_of s) h
+-- an answer that a run doesn't end with
+abbrev pub IsLine : Answer → Type 0
+IsLine (stopped stop) = ⊥
+IsLine a = Unit {0}
 
-pub joined_told : (o : Option Files) (job : Build) (text bytes : Text) (r : Result Ready Status) →
-    IfSome o (λ files. IsRead files job.program text) → IfSome o (λ files. IsRead files job.board bytes) →
-    MatchResult r (λ x. IsReadyOf job.budget text bytes x.text.items (string_bytes x.line)) (λ s. IsRefused job.budget text bytes (answer_of s)) →
-    IfSome o (λ files. MatchResult r (λ x. IsReady job files x.text.items (string_bytes x.line)) (λ s. Causes job files (answer_of s)))
-joined_told None job text bytes r program board h = tt
-joined_told (Some files) job text bytes r program board h = joined job files text bytes (record { program = program; board = board }) r h
+module _ (words : List Text) (ws : List Wanted) (asks : AskReading words ws) (P : Refusal → Type 0) (before now : ℕ) (bad : Text) where
+  pub reading_words : (a : Answer) → CountsReading ws P before now bad a → WordsAre words a
+  reading_words usage h = absurd h
+  reading_words not_built h = absurd h
+  reading_words a h = λ n. absurd (asks.once n)
 
--- whatever is built has a line of its form
-pub any_line : (wanted : Option ℕ) (text bytes : Text) (r : Result Ready Status) →
-    MatchResult r (λ x. IsReadyOf wanted text bytes x.text.items (string_bytes x.line)) (λ s. IsRefused wanted text bytes (answer_of s)) →
-    IfOk r (λ x. (code : ℕ) × (bytes : ℕ) × (string_bytes x.line ≡ built_line code bytes))
-any_line wanted text bytes (Ok x) h = (code_size (straight_blocks h.statements), 2 * objects_of h.statements, h.tells)
-any_line wanted text bytes (Err s) h = tt
+  pub reading_read : (a : Answer) → CountsReading ws P before now bad a → ReadFaultIs words before now bad a
+  reading_read (read_fault name) h = (h.2, h.1, (h.0.0, asks.reads h.0.0 h.0.1, h.0.2))
+  reading_read a h = tt
+
+  pub reading_read_rose : (a : Answer) → CountsReading ws P before now bad a → before < now → IsReadFaultOrFree a
+  reading_read_rose (read_fault name) h less = tt
+  reading_read_rose no_memory h less = tt
+  reading_read_rose (too_large name seen) h less = absurd (grew_not before now h.1 less)
+  reading_read_rose (refused r) h less = absurd (grew_not before now h.1 less)
+  reading_read_rose a h less = absurd h
+
+  pub reading_write : (a : Answer) → CountsReading ws P before now bad a → (old new puts_before puts_now : ℕ) → WriteFaultIs words old new puts_before puts_now a
+  reading_write (write_fault name) h old new puts_before puts_now = absurd h
+  reading_write a h old new puts_before puts_now = tt
+
+  pub reading_large : (a : Answer) → CountsReading ws P before now bad a → TooLargeIs words a
+  reading_large (too_large name seen) h = (h.0.0, asks.reads h.0.0 h.0.1, h.0.2, h.0.3)
+  reading_large a h = tt
+
+  pub reading_supply : (boxes left : List Box) (a : Answer) → CountsReading ws P before now bad a → SupplyFaultIs words boxes left a
+  reading_supply boxes left (stopped stop) h = absurd h
+  reading_supply boxes left a h = tt
+
+  pub reading_leaves : (o n : Option Files) → n ≡ o → (a : Answer) → CountsReading ws P before now bad a → LeavesTold words a o n
+  reading_leaves o n e done h = absurd h
+  reading_leaves o n e (write_fault name) h = absurd h
+  reading_leaves o n e a h = same_told words a (λ x y k. k) o n e
+
+  pub reading_line : (a : Answer) → CountsReading ws P before now bad a → IsLine a
+  reading_line (stopped stop) h = absurd h
+  reading_line a h = tt

@@ -7,23 +7,28 @@ use Rattle.supply_trace.specs.Boxes.{all_rows}
 use Rattle.supplied_run.specs.Shown.{AreLeft, FrontCounts, Shows}
 use Rattle.supplied_run.specs.declared.end.End.{End}
 use Rattle.supplied_run.specs.declared.end.End.TheVariants as end
-use Rattle.commands.specs.Words.{Text}
-use Rattle.commands.specs.Answers.{Answer, Stop, done, write_fault, stopped, trapped, supply_ended, step_limit, power_fault, machine_fault, supply_fault, came_of}
-use Rattle.commands.specs.Causes.{HasCause, output}
+use Rattle.job_files.specs.Answers.{Answer, IsDecided, Stop, came_of, done, machine_fault, power_fault, step_limit, stopped, supply_ended, supply_fault, trapped, write_fault}
+use Rattle.job_files.specs.Output.{Sunk}
+use Rattle.job_files.specs.Reads.{AreHad}
+use Rattle.job_files.specs.Stores.{Seen}
+use Rattle.job_files.specs.Text.{Text, output}
+use Rattle.job_files.proofs.Telling.{fill, grew_not, map_told}
+use Rattle.run_job.specs.Boxes.{Box, BoxRose, faults_of, loaded, rows_left}
+use Rattle.run_job.specs.Ends.{IsOpened, answer_of_run}
+use Rattle.run_job.specs.Run.{run_files, texts_in}
+use Rattle.run_job.specs.Running.{IsRunOf, RunsTo}
+use Rattle.run_job.proofs.Boxes.{front_rose, left_some, supplies_number}
+use Rattle.commands.specs.Call.{HasRunAsked}
+use Rattle.commands.specs.Causes.{HasCause}
+use Rattle.commands.specs.Faults.{IsComplete, IsReadFaultOrFree, IsWriteFault, NoBoxRose, ReadFaultIs, SupplyFaultIs, TooLargeIs, WordsAre, WriteFaultIs}
 use Rattle.commands.specs.Left.{LeavesTold}
-use Rattle.commands.specs.Faults.{BoxRose, IsComplete, IsDecided, IsReadFaultOrFree, IsWriteFault, NoBoxRose, ReadFaultIs, SupplyFaultIs, TooLargeIs, WordsAre, WriteFaultIs, faults_of}
-use Rattle.commands.specs.Job.{Seen}
-use Rattle.commands.specs.Reads.{AreHad}
-use Rattle.commands.specs.Running.{Box, IsRunOf, RunsTo, files_of, loaded, rows_left, texts_in}
-use Rattle.commands.specs.RunJob.{IsOpened, answer_of_run}
-use Rattle.commands.specs.Call.{Begun as HasBegun, Sunk}
-use Rattle.commands.proofs.Clauses.{run_asks_once, run_caused}
-use Rattle.commands.proofs.Told.{fill, grew_not, map_told, same_told}
+use Rattle.commands.proofs.Asks.{run_asks_once}
+use Rattle.commands.proofs.Clauses.{run_caused}
 use Rattle.commands.proofs.OneCause.{decide_one}
-use Rattle.commands.proofs.Boxes.{front_rose, left_some, supplies_number}
+use Rattle.commands.proofs.Told.{same_told}
 
-module _ (words : List Text) (old new : Seen) (before left : List Box) (sunk now : Sunk) (a : Answer) (r : HasBegun words old new before left sunk now a) where
-  opened : IsOpened r.job old new before r.has_run.said r.has_run.first
+module _ (words : List Text) (old new : Seen) (before left : List Box) (sunk now : Sunk) (a : Answer) (r : HasRunAsked words old new before left sunk now a) where
+  opened : IsOpened r.job old new before r.has_run.held r.has_run.first
   opened = r.has_run.opened
 
   -- its answer is how it ended, or that the output failed
@@ -35,10 +40,10 @@ module _ (words : List Text) (old new : Seen) (before left : List Box) (sunk now
       each (Err f) is h = failed h.1
 
   -- where it was told to its end, the run ended so
-  ended : (e : End) → r.has_run.is_shown.told ≡ Ok e → IsRunOf r.job.steps before r.has_run.said e
+  ended : (e : End) → r.has_run.is_shown.told ≡ Ok e → IsRunOf r.job.steps before r.has_run.held e
   ended e is =
-      let shown = subst (λ (t : Result End SinkFault). Shows r.has_run.said.board r.has_run.said.input r.job.steps r.has_run.first
-      (all_rows rows_left (loaded before r.has_run.said.rows)) (all_rows rows_left left) t sunk.told now.told) is r.has_run.is_shown.shown in
+      let shown = subst (λ (t : Result End SinkFault). Shows r.has_run.held.board r.has_run.held.input r.job.steps r.has_run.first
+      (all_rows rows_left (loaded before r.has_run.held.rows)) (all_rows rows_left left) t sunk.told now.told) is r.has_run.is_shown.shown in
       record {
         first = r.has_run.first;
         is_first = r.has_run.opened.is_first;
@@ -50,12 +55,12 @@ module _ (words : List Text) (old new : Seen) (before left : List Box) (sunk now
         ends = shown.puts.0;
       }
 
-  runs_to : (f : Files) (e : End) → r.has_run.is_shown.told ≡ Ok e → AreHad f (files_of r.job) (texts_in r.has_run.opened.texts) → RunsTo r.job f before e
+  runs_to : (f : Files) (e : End) → r.has_run.is_shown.told ≡ Ok e → AreHad f (run_files r.job) (texts_in r.has_run.opened.texts) → RunsTo r.job f before e
   runs_to f e is had = record {
     texts = r.has_run.opened.texts;
     had = had;
-    said = r.has_run.said;
-    are_said = r.has_run.opened.are_said;
+    held = r.has_run.held;
+    are_held = r.has_run.opened.are_held;
     is_run = ended e is;
   }
 
@@ -71,7 +76,7 @@ module _ (words : List Text) (old new : Seen) (before left : List Box) (sunk now
   pub cause : IfSome old.files (λ f. HasCause words f before a)
   cause =
       by_told (λ x. IfSome old.files (λ f. HasCause words f before x))
-      (λ e is. map_told old.files (λ f. AreHad f (files_of r.job) (texts_in r.has_run.opened.texts)) (λ f. HasCause words f before (came_of e))
+      (λ e is. map_told old.files (λ f. AreHad f (run_files r.job) (texts_in r.has_run.opened.texts)) (λ f. HasCause words f before (came_of e))
       (λ f had. end_caused f e (runs_to f e is had)) r.has_run.opened.had)
       (λ rose. fill old.files (λ f. HasCause words f before (write_fault output)) (λ f other. absurd (other refl)))
 
@@ -132,10 +137,10 @@ module _ (words : List Text) (old new : Seen) (before left : List Box) (sunk now
 
   pub box_rose : r.has_run.is_shown.told ≡ Ok end.SupplyFault → BoxRose (length r.job.supplies) before left
   box_rose is =
-      front_rose (length r.job.supplies) before r.has_run.said.rows left (supplies_number r.job old new before r.has_run.said r.has_run.first opened)
-      (left_some r.job.steps before r.has_run.said left (subst (λ (t : Result End SinkFault). Shows r.has_run.said.board r.has_run.said.input r.job.steps r.has_run.first
-      (all_rows rows_left (loaded before r.has_run.said.rows)) (all_rows rows_left left) t sunk.told now.told) is r.has_run.is_shown.shown))
-      (subst (λ (t : Result End SinkFault). AreLeft faults_of (FrontCounts t) (loaded before r.has_run.said.rows) left) is r.has_run.is_shown.boxes)
+      front_rose (length r.job.supplies) before r.has_run.held.rows left (supplies_number r.job old new before r.has_run.held r.has_run.first opened)
+      (left_some r.job.steps before r.has_run.held left (subst (λ (t : Result End SinkFault). Shows r.has_run.held.board r.has_run.held.input r.job.steps r.has_run.first
+      (all_rows rows_left (loaded before r.has_run.held.rows)) (all_rows rows_left left) t sunk.told now.told) is r.has_run.is_shown.shown))
+      (subst (λ (t : Result End SinkFault). AreLeft faults_of (FrontCounts t) (loaded before r.has_run.held.rows) left) is r.has_run.is_shown.boxes)
 
   end_supply : (e : End) → r.has_run.is_shown.told ≡ Ok e → SupplyFaultIs words before left (came_of e)
   end_supply end.SupplyFault is = (r.job, r.asks, box_rose is)
@@ -163,7 +168,7 @@ module _ (words : List Text) (old new : Seen) (before left : List Box) (sunk now
   pub complete : IfSome old.files (λ f. ¬ Rose old.reads new.reads → ¬ Rose old.writes new.writes → ¬ Rose sunk.faults now.faults → NoBoxRose words before left → IsComplete words f before a)
   complete =
       by_told (λ x. IfSome old.files (λ f. ¬ Rose old.reads new.reads → ¬ Rose old.writes new.writes → ¬ Rose sunk.faults now.faults → NoBoxRose words before left → IsComplete words f before x))
-      (λ e is. map_told old.files (λ f. AreHad f (files_of r.job) (texts_in r.has_run.opened.texts))
+      (λ e is. map_told old.files (λ f. AreHad f (run_files r.job) (texts_in r.has_run.opened.texts))
       (λ f. ¬ Rose old.reads new.reads → ¬ Rose old.writes new.writes → ¬ Rose sunk.faults now.faults → NoBoxRose words before left → IsComplete words f before (came_of e))
       (λ f had still kept quiet sound b d k. inr (decide_one words f before (came_of e) b (end_decided sound e is) d (end_caused f e (runs_to f e is had)) k)) r.has_run.opened.had)
       (λ rose. fill old.files (λ f. ¬ Rose old.reads new.reads → ¬ Rose old.writes new.writes → ¬ Rose sunk.faults now.faults → NoBoxRose words before left → IsComplete words f before (write_fault output))

@@ -6,20 +6,24 @@ use Rattle.c_tree.specs.Meaning.{meaning}
 use Rattle.c_tree.specs.declared.tree.Program.{Program}
 use Rattle.plain_meaning.specs.Behaviour.{Outcome, Going, EndedWith, TrappedWith}
 use Rattle.program_texts.specs.Shown.{end_of}
-use Rattle.commands.specs.Words.{Text, Say, AskSay}
-use Rattle.commands.specs.Answers.{Answer, done, usage, read_fault, write_fault, no_memory, board_refused, too_large, not_built, needs_checkpoint, image_refused, program_refused, text_refused, stopped, trapped, step_limit, supply_fault, came_of}
-use Rattle.commands.specs.Causes.{HasCause, output}
+use Rattle.job_files.specs.Answers.{Answer, IsDecided, came_of, done, no_memory, not_built, read_fault, step_limit, stopped, supply_fault, too_large, trapped, usage, write_fault}
+use Rattle.job_files.specs.Output.{Sunk}
+use Rattle.job_files.specs.Stores.{Seen}
+use Rattle.job_files.specs.Text.{Text, output}
+use Rattle.job_files.proofs.Telling.{grew_not, map_told}
+use Rattle.run_job.specs.Boxes.{Box}
+use Rattle.say_job.specs.Ends.{IsSaid}
+use Rattle.say_job.specs.Say.{Say}
+use Rattle.say_job.specs.Saying.{Hold, SayCauses}
+use Rattle.commands.specs.Call.{HasSaidAsked}
+use Rattle.commands.specs.Causes.{HasCause}
+use Rattle.commands.specs.Faults.{IsComplete, IsReadFaultOrFree, IsWriteFault, NoBoxRose, ReadFaultIs, SupplyFaultIs, TooLargeIs, WordsAre, WriteFaultIs}
 use Rattle.commands.specs.Left.{LeavesTold}
-use Rattle.commands.specs.Faults.{IsComplete, IsDecided, IsReadFaultOrFree, IsWriteFault, NoBoxRose, ReadFaultIs, SupplyFaultIs, TooLargeIs, WordsAre, WriteFaultIs}
-use Rattle.commands.specs.Job.{Seen}
-use Rattle.commands.specs.Running.{Box}
-use Rattle.commands.specs.Saying.{Hold, SayCauses}
-use Rattle.commands.specs.SayJob.{IsSaid}
-use Rattle.commands.specs.Call.{Spoken, Sunk}
+use Rattle.commands.specs.Words.{AskSay}
 use Rattle.commands.proofs.Asks.{say_asks_once}
+use Rattle.commands.proofs.Clauses.{say_caused}
 use Rattle.commands.proofs.OneCause.{decide_one}
-use Rattle.commands.proofs.SayClauses.{say_caused}
-use Rattle.commands.proofs.Told.{grew_not, map_told, same_told}
+use Rattle.commands.proofs.Told.{same_told}
 
 -- what a program may come to
 abbrev MayCome : Answer → Type 0
@@ -38,7 +42,7 @@ may_be o a e = subst MayCome (sym e) (may_come o)
 
 module _ (words : List Text) (old new : Seen) (before left : List Box) (sunk now : Sunk) where
   abbrev Speaking : Answer → Type 0
-  Speaking a = Spoken words old new before left sunk now a
+  Speaking a = HasSaidAsked words old new before left sunk now a
 
   abbrev SaidHere : (job : Say) → Program → List ℕ → Answer → Type 0
   SaidHere job p input a = IsSaid p input job.steps sunk.told now.told sunk.faults now.faults a
@@ -61,7 +65,7 @@ module _ (words : List Text) (old new : Seen) (before left : List Box) (sunk now
   said_words job asks p input (write_fault name) h = λ n. absurd (say_asks_once words job asks n)
   said_words job asks p input no_memory h = λ n. absurd (say_asks_once words job asks n)
   said_words job asks p input usage h = absurd (may_be (meaning p input job.steps).outcome usage h.0)
-  said_words job asks p input (not_built what) h = absurd (may_be (meaning p input job.steps).outcome (not_built what) h.0)
+  said_words job asks p input not_built h = absurd (may_be (meaning p input job.steps).outcome not_built h.0)
   said_words job asks p input a h = λ n. absurd (say_asks_once words job asks n)
 
   said_read : (job : Say) (p : Program) (input : List ℕ) (a : Answer) → SaidHere job p input a → ReadFaultIs words old.reads new.reads new.bad a
@@ -88,17 +92,7 @@ module _ (words : List Text) (old new : Seen) (before left : List Box) (sunk now
   said_leaves : (job : Say) → AskSay words job → (p : Program) (input : List ℕ) (a : Answer) → SaidHere job p input a → new.files ≡ old.files → LeavesTold words a old.files new.files
   said_leaves job asks p input done h same = same_told words done (λ x y k. inr (inr (job, asks), k)) old.files new.files same
   said_leaves job asks p input (write_fault name) h same = same_told words (write_fault name) (λ x y k. inl k) old.files new.files same
-  said_leaves job asks p input (read_fault name) h same = same_told words (read_fault name) (λ x y k. k) old.files new.files same
-  said_leaves job asks p input no_memory h same = same_told words no_memory (λ x y k. k) old.files new.files same
-  said_leaves job asks p input usage h same = same_told words usage (λ x y k. k) old.files new.files same
-  said_leaves job asks p input (board_refused kind key) h same = same_told words (board_refused kind key) (λ x y k. k) old.files new.files same
-  said_leaves job asks p input (too_large n seen) h same = same_told words (too_large n seen) (λ x y k. k) old.files new.files same
-  said_leaves job asks p input (not_built what) h same = same_told words (not_built what) (λ x y k. k) old.files new.files same
-  said_leaves job asks p input (needs_checkpoint need budget) h same = same_told words (needs_checkpoint need budget) (λ x y k. k) old.files new.files same
-  said_leaves job asks p input (image_refused fault at) h same = same_told words (image_refused fault at) (λ x y k. k) old.files new.files same
-  said_leaves job asks p input (program_refused fault place) h same = same_told words (program_refused fault place) (λ x y k. k) old.files new.files same
-  said_leaves job asks p input (text_refused name at) h same = same_told words (text_refused name at) (λ x y k. k) old.files new.files same
-  said_leaves job asks p input (stopped stop) h same = same_told words (stopped stop) (λ x y k. k) old.files new.files same
+  said_leaves job asks p input a h same = same_told words a (λ x y k. k) old.files new.files same
 
   -- an answer that words and files decide, unless a fault is counted
   said_decided : (job : Say) (p : Program) (input : List ℕ) (a : Answer) → SaidHere job p input a → ¬ Rose sunk.faults now.faults → (a ≡ no_memory) ⊎ IsDecided a

@@ -6,8 +6,8 @@ use Rattle.std.specs.Str.{bytes_eq}
 use Rattle.std.proofs.lemmas.Bool.{leb-true}
 use Rattle.job_parts.specs.Words.{Word, Given, Setting, budget, steps, Form, ends, option, strange, plain, form_of, given_from, nothing, number, slot, turn, with_number, with_option, with_words}
 use Rattle.job_parts.specs.Asked.{Request, Task, asked, build, check, run, say, plan, gen, build_of, check_of, run_of, say_of, plan_of, gen_of, differ, files_of, task_of, request_of}
-use Rattle.commands.specs.Begun.{FitsBoxes}
-use Rattle.commands.specs.Words.{Text}
+use Rattle.job_files.specs.Text.{Text}
+use Rattle.commands.specs.Beginnings.{FitsBoxes}
 
 none_some : {A : Type 0} (x : A) → (let n : Option A = None in n ≡ Some x) → ⊥
 none_some x e = cc

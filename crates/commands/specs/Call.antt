@@ -1,15 +1,17 @@
 -- What a whole call comes to: how its job ends, and what is put of it.
-use Rattle.std.specs.Prelude.{◌≡◌, ◌≤◌, ◌⊎◌, ◌++◌, ℕ, List, [], length, take, Option, Some, None, ⊤}
-use Rattle.base_io.specs.Counts.{Rose}
+use Rattle.std.specs.Prelude.{◌≡◌, ◌⊎◌, ℕ, List, [], Option, Some, None}
 use Rattle.job_parts.specs.Asked.{Request, Task, asked, build, run, say}
-use Rattle.commands.specs.Words.{Text, Run, Say, AskRun, AskSay}
-use Rattle.commands.specs.Answers.{Answer, usage, write_fault, no_memory, not_built, line_of}
-use Rattle.commands.specs.Job.{Ends, IsUnwritten, Seen}
-use Rattle.commands.specs.Causes.{output}
-use Rattle.commands.specs.Running.{Box}
-use Rattle.commands.specs.RunJob.{HasRun, IsPartlyLoaded, RunEnds}
-use Rattle.commands.specs.SayJob.{HasSaid, SayEnds}
-use Rattle.commands.specs.declared.status.Unbuilt.TheVariants.{Words}
+use Rattle.job_files.specs.Answers.{Answer, line_of, no_memory, not_built, usage}
+use Rattle.job_files.specs.Output.{IsNotPut, Puts, Sunk}
+use Rattle.job_files.specs.Stores.{IsUnwritten, Seen}
+use Rattle.job_files.specs.Text.{Text}
+use Rattle.build_job.specs.Ends.{BuildEnds}
+use Rattle.run_job.specs.Boxes.{Box, IsPartlyLoaded}
+use Rattle.run_job.specs.Ends.{HasRun, RunEnds}
+use Rattle.run_job.specs.Run.{Run}
+use Rattle.say_job.specs.Ends.{HasSaid, SayEnds}
+use Rattle.say_job.specs.Say.{Say}
+use Rattle.commands.specs.Words.{AskRun, AskSay}
 
 -- the words are refused, and no file is touched
 pub record IsRefusedAtOnce (refusal : Answer) (old new : Seen) (a : Answer) (line : Text) : Type 0 where
@@ -22,12 +24,12 @@ pub record IsRefusedAtOnce (refusal : Answer) (old new : Seen) (a : Answer) (lin
 -- how a job ends that puts one line, under the budget and the number of steps that are asked for
 abbrev pub TaskEnds : Task → Option ℕ → ℕ → Seen → Seen → List Box → List Box → Answer → Text → Type 0
 TaskEnds (build program board image certificate) budget steps old new before now a line =
-    Ends (record { program = program; board = board; image = image; certificate = certificate; budget = budget }) old new a line × (now ≡ before)
+    BuildEnds (record { program = program; board = board; image = image; certificate = certificate; budget = budget }) old new a line × (now ≡ before)
 TaskEnds (run image board input supplies) budget steps old new before now a line =
     RunEnds (record { image = image; board = board; input = input; supplies = supplies; budget = budget; steps = steps }) old new before now a line
 TaskEnds (say program input) budget steps old new before now a line =
     SayEnds (record { program = program; input = input; steps = steps }) old new a line × (now ≡ before)
-TaskEnds task budget steps old new before now a line = IsRefusedAtOnce (not_built Words) old new a line × (now ≡ before)
+TaskEnds task budget steps old new before now a line = IsRefusedAtOnce not_built old new a line × (now ≡ before)
 
 -- how the job of the words ends
 abbrev pub ComesTo : Option Request → Seen → Seen → List Box → List Box → Answer → Text → Type 0
@@ -48,68 +50,31 @@ pub record IsGivenUp (words : List Text) (old new : Seen) (before now : List Box
 abbrev pub Comes : List Text → Seen → Seen → List Box → List Box → Answer → Text → Type 0
 Comes words old new before now a line = ComesTo (asked words) old new before now a line ⊎ IsGivenUp words old new before now a line
 
--- ---- The output: what it tells, and its count of faults
-
-pub record Sunk : Type 0 where
-  pub told : Option Text
-  pub faults : ℕ
-
-abbrev pub AllTold : Text → Option Text → Option Text → Type 0
-AllTold line (Some old) (Some new) = new ≡ old ++ line
-AllTold line None None = ⊤
-AllTold line (Some old) None = ⊥
-AllTold line None (Some new) = ⊥
-
-abbrev pub FrontTold : Text → Option Text → Option Text → Type 0
-FrontTold line (Some old) (Some new) = (n : ℕ) × (n ≤ length line) × (new ≡ old ++ take n line)
-FrontTold line None None = ⊤
-FrontTold line (Some old) None = ⊥
-FrontTold line None (Some new) = ⊥
-
--- the line was put, and the answer is what the job came to
-pub record IsWholePut (came : Answer) (line : Text) (old new : Sunk) (a : Answer) : Type 0 where
-  pub answer : a ≡ came
-  pub told : AllTold line old.told new.told
-  pub faults : new.faults ≡ old.faults
-
--- the output failed
-pub record IsFailedPut (line : Text) (old new : Sunk) (a : Answer) : Type 0 where
-  pub answer : a ≡ write_fault output
-  pub told : FrontTold line old.told new.told
-  pub rose : Rose old.faults new.faults
-
--- there was no memory for the name of the output
-pub record IsNotPut (old new : Sunk) (a : Answer) : Type 0 where
-  pub answer : a ≡ no_memory
-  pub told : new.told ≡ old.told
-  pub faults : new.faults ≡ old.faults
-
-abbrev pub Puts : Answer → Text → Sunk → Sunk → Answer → Type 0
-Puts came line old new a = IsWholePut came line old new a ⊎ IsFailedPut line old new a
-
 -- ---- The call
 
 -- The job came to an answer with its line. The line was put and is the answer's, or the output failed behind a front of it, or there was no
 -- memory for the name of the output, and then nothing was put.
-pub record Ran (words : List Text) (old new : Seen) (before left : List Box) (sunk now : Sunk) (a : Answer) : Type 0 where
+pub record IsToldInOneLine (words : List Text) (old new : Seen) (before left : List Box) (sunk now : Sunk) (a : Answer) : Type 0 where
   pub came : Answer
   pub line : Text
   pub comes : Comes words old new before left came line
   pub puts : Puts came line sunk now a ⊎ (IsNotPut sunk now a × (came ≡ no_memory))
 
 -- a run that the words ask for has begun
-pub record Begun (words : List Text) (old new : Seen) (before left : List Box) (sunk now : Sunk) (a : Answer) : Type 0 where
+pub record HasRunAsked (words : List Text) (old new : Seen) (before left : List Box) (sunk now : Sunk) (a : Answer) : Type 0 where
   pub job : Run
   pub asks : AskRun words job
   pub has_run : HasRun job old new before left sunk.told now.told sunk.faults now.faults a
 
 -- a say that the words ask for has begun
-pub record Spoken (words : List Text) (old new : Seen) (before left : List Box) (sunk now : Sunk) (a : Answer) : Type 0 where
+pub record HasSaidAsked (words : List Text) (old new : Seen) (before left : List Box) (sunk now : Sunk) (a : Answer) : Type 0 where
   pub job : Say
   pub asks : AskSay words job
   pub boxes : left ≡ before
   pub has_said : HasSaid job old new sunk.told now.told sunk.faults now.faults a
 
+-- The call told one line, or a run or a say that the words ask for has begun and told its own.
 abbrev pub Called : List Text → Seen → Seen → List Box → List Box → Sunk → Sunk → Answer → Type 0
 Called words old new before left sunk now a =
-    Ran words old new before left sunk now a ⊎ (Begun words old new before left sunk now a ⊎ Spoken words old new before left sunk now a)
+    IsToldInOneLine words old new before left sunk now a
+    ⊎ (HasRunAsked words old new before left sunk now a ⊎ HasSaidAsked words old new before left sunk now a)

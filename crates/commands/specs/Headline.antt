@@ -11,8 +11,10 @@ use Rattle.msp430_machine.specs.State.{State}
 use Rattle.msp430_machine.specs.First.{IsFirst, HoldsBlocks}
 use Rattle.power_core.specs.Agreement.{Agrees}
 use Rattle.power_core.specs.Enduring.{Endures}
-use Rattle.commands.specs.Words.{Text, Build, AskBuild}
-use Rattle.commands.specs.Budget.{IsBoardWith}
+use Rattle.job_files.specs.Boards.{IsBoardWith}
+use Rattle.job_files.specs.Text.{Text}
+use Rattle.build_job.specs.Build.{Build}
+use Rattle.commands.specs.Words.{AskBuild}
 
 -- The words name four files. PROG holds the text of a program and BOARD that of a board. IMAGE now holds the one spelling
 -- of an image, and no other file changed. On that board, with the budget that the words ask for if they ask for one, the

@@ -1,11 +1,10 @@
 -- What holds of the causes themselves.
 use Rattle.std.specs.Prelude.{◌≡◌, List}
 use Rattle.base_io.specs.Files.{Files}
-use Rattle.commands.specs.Words.{Text}
-use Rattle.commands.specs.Answers.{Answer}
-use Rattle.commands.specs.Running.{Box}
+use Rattle.job_files.specs.Answers.{Answer, IsDecided}
+use Rattle.job_files.specs.Text.{Text}
+use Rattle.run_job.specs.Boxes.{Box}
 use Rattle.commands.specs.Causes.{HasCause}
-use Rattle.commands.specs.Faults.{IsDecided}
 
 -- words, files and boxes decide one answer at most
 abbrev pub DecideOne : Type 0

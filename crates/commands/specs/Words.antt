@@ -1,9 +1,15 @@
 -- What the words of the command line ask for: a build, a run, a say, or a job that isn't built yet.
-use Rattle.std.specs.Prelude.{◌≡◌, ℕ, List, Option, Some, Bool, true, false}
+use Rattle.std.specs.Prelude.{◌≡◌, ℕ, List, Option, Some, Bool, true, false, map}
+use denote.Bor.{Bor}
 use Rattle.job_parts.specs.Asked.{Request, Task, asked, build, run, say}
+use Rattle.job_files.specs.Text.{Text}
+use Rattle.build_job.specs.Build.{Build}
+use Rattle.run_job.specs.Run.{Run}
+use Rattle.say_job.specs.Say.{Say}
 
-abbrev pub Text : Type 0
-Text = List ℕ
+-- the words as the call is lent them
+abbrev pub words_in : List (Bor Text) → List Text
+words_in words = map (λ word. word.now) words
 
 -- the jobs that are built
 abbrev pub is_built : Task → Bool
@@ -18,37 +24,14 @@ pub record AskUnbuilt (words : List Text) : Type 0 where
   pub asks : asked words ≡ Some request
   pub unbuilt : is_built request.task ≡ false
 
--- a build: its files, and the budget that takes the place of the board's, if one is asked for
-pub record Build : Type 0 where
-  pub program : Text
-  pub board : Text
-  pub image : Text
-  pub certificate : Text
-  pub budget : Option ℕ
-
 -- the words ask for this build, with any number of steps, which a build doesn't use
 pub record AskBuild (words : List Text) (job : Build) : Type 0 where
   pub steps : ℕ
   pub asks : asked words ≡ Some (record { task = build job.program job.board job.image job.certificate; budget = job.budget; steps = steps })
 
--- A run: its files, the budget that takes the place of the board's, if one is asked for, and the most instructions.
-pub record Run : Type 0 where
-  pub image : Text
-  pub board : Text
-  pub input : Text
-  pub supplies : List Text
-  pub budget : Option ℕ
-  pub steps : ℕ
-
 -- the words ask for this run
 pub record AskRun (words : List Text) (job : Run) : Type 0 where
   pub asks : asked words ≡ Some (record { task = run job.image job.board job.input job.supplies; budget = job.budget; steps = job.steps })
-
--- A say: its files, and the most steps.
-pub record Say : Type 0 where
-  pub program : Text
-  pub input : Text
-  pub steps : ℕ
 
 -- the words ask for this say, with any budget, which a say doesn't use
 pub record AskSay (words : List Text) (job : Say) : Type 0 where

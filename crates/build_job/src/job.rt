@@ -1,0 +1,15 @@
+//! What a build is asked to do.
+ghost use Rattle.std.specs.Prelude.{◌≤◌, IfSome};
+ghost use Rattle.std.proofs.Props.{props};
+
+/// What a build is asked to do.
+#[derive(Debug, Drop)]
+pub struct BuildJob<'w> {
+    pub program: &'w str,
+    pub board: &'w str,
+    pub image: &'w str,
+    pub certificate: &'w str,
+    /// Takes the place of the board's budget.
+    pub budget: Option<u64>,
+    pub ghost budget_range: { IfSome budget (λ n. (1 ≤ n) × (n ≤ 1000000000)) } by { Prim.hlevel props },
+}

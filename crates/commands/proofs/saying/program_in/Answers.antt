@@ -1,4 +1,0 @@
-use Rattle.commands.proofs.saying.program_in.Goals as goal
-
-pub returns-in-Err-Refused : goal.returns-in-Err-Refused
-returns-in-Err-Refused c = rw c.in-Err-Refused.field-0-is at c.in-Err-Refused.ensures.fault

@@ -1,0 +1,51 @@
+//! Texts of programs.
+ghost use Rattle.std.specs.Prelude.{◌≡◌, ◌≤◌, MatchResult, length};
+ghost use Rattle.program_texts.specs.Front.{IsTextOf};
+ghost use Rattle.job_files.specs.Answers.{IsRefusedFor, answer_of};
+ghost use Rattle.job_files.specs.Reads.{most_program};
+ghost use Rattle.program_files.specs.Programs.{RefusesProgram, fault_of};
+
+use c_tree::Program;
+use job_files::{ProgramRefusal, Refusal, Status};
+use program_texts::{ProgramFault, ProgramRefusal as TextRefusal, program_of};
+use std::alloc::Global;
+
+// A refusal by its name.
+fn named(fault: TextRefusal) -> ProgramRefusal
+    ensures { fault_of result ≡ fault }
+{
+    match fault {
+        TextRefusal::BadByte => ProgramRefusal::BadByte,
+        TextRefusal::BadLiteral => ProgramRefusal::BadLiteral,
+        TextRefusal::TooBig => ProgramRefusal::TooBig,
+        TextRefusal::OpenComment => ProgramRefusal::OpenComment,
+        TextRefusal::HashLine => ProgramRefusal::HashLine,
+        TextRefusal::Unexpected => ProgramRefusal::Unexpected,
+        TextRefusal::NotInProfile => ProgramRefusal::NotInProfile,
+        TextRefusal::TooDeep => ProgramRefusal::TooDeep,
+        TextRefusal::Unknown => ProgramRefusal::Unknown,
+        TextRefusal::Redeclared => ProgramRefusal::Redeclared,
+        TextRefusal::WrongArgs => ProgramRefusal::WrongArgs,
+        TextRefusal::NotConst => ProgramRefusal::NotConst,
+        TextRefusal::BadArray => ProgramRefusal::BadArray,
+        TextRefusal::BadAssign => ProgramRefusal::BadAssign,
+        TextRefusal::NoMain => ProgramRefusal::NoMain,
+        TextRefusal::Recursion => ProgramRefusal::Recursion,
+        TextRefusal::TooMany => ProgramRefusal::TooMany,
+    }
+}
+
+/// The program of a text, or its first fault.
+pub fn program_in(alloc: Global, text: &[u8]) -> Result<Program, Status>
+    requires { length text.now ≤ most_program }
+    ensures { MatchResult result (λ p. IsTextOf text.now p) (λ s. IsRefusedFor (RefusesProgram text.now) (answer_of s)) }
+{
+    match program_of(alloc, text) {
+        Ok(program) => Ok(program),
+        Err(ProgramFault::Refused { fault, place }) => {
+            let fault = named(fault);
+            Err(Status::Refused(Refusal::Program { fault, place }))
+        }
+        Err(ProgramFault::Memory) => Err(Status::Memory),
+    }
+}
