@@ -1,7 +1,6 @@
 -- A text is read to its end exactly where it is a certificate's, and else up to its first bad line.
-use Rattle.std.proofs.Common.{◌≡◌, ◌∙◌, ◌+◌, ◌==◌, ◌≤◌, ◌<◌, ◌++◌, ◌⊎◌, ℕ, List, [], ◌∷◌, Option, Some, None, Bool, false, true, refl, sym, ap, ap₂, subst, length, arith, inl, inr, append_assoc, append-nil, length-append, eqb-true}
-use Rattle.std.proofs.lemmas.Bool.{cases_Bool, eqb-false, true≢false}
-use Rattle.std.specs.Prelude.{option_map, option_to_list, flat_map}
+use Rattle.std.proofs.Common.{◌≡◌, ◌∙◌, ◌+◌, ◌++◌, ◌⊎◌, ℕ, List, [], ◌∷◌, Option, Some, None, refl, sym, ap, ap₂, subst, length, inl, inr, append_assoc, append-nil, length-append}
+use Rattle.std.proofs.lemmas.Bool.{cases_Bool, eqb-false}
 use Rattle.std.specs.Str.{bytes_eq}
 use Rattle.std.proofs.lemmas.Slice.Eq.{bytes_eq-Decides}
 use Rattle.certificate.specs.declared.state.Stage.{Stage}
@@ -13,12 +12,12 @@ use Rattle.certificate.specs.Spelling.{fed_line, first_line, row_text, rows_text
 use Rattle.certificate.specs.Texts.{AreWhole, BadLineAt, Begins, Holds, Lacks}
 use Rattle.certificate.specs.Fields.{after_mark, before_mark, parts_of}
 use Rattle.certificate.specs.Reading.{Progress, Taken, behind_rows, fault_at_end, fed, going, read_line, read_lines, read_text, stopped, stopped_at}
-use Rattle.certificate.proofs.Marks.{apart, else_some, none_not, some_is}
+use Rattle.certificate.proofs.Marks.{apart, none_not, some_is}
 use Rattle.certificate.proofs.Lists.{part_alone, part_and}
 use Rattle.certificate.proofs.Passing.{passes}
 use Rattle.certificate.proofs.Pieces.{some_parts}
 use Rattle.certificate.proofs.TwoPieces.{behind_none, go_on, stops, two_pieces}
-use Rattle.certificate.proofs.Order.{AllRows, CertificateTold, IsLater, certificate_leads, certificate_rows, certificate_told, ending, ending_leads, ending_rows, rows_append, stages, stages_append, stages_later}
+use Rattle.certificate.proofs.Order.{AllRows, certificate_leads, certificate_rows, certificate_told, ending, ending_leads, ending_rows, rows_append, stages, stages_append, stages_later}
 use Rattle.certificate.proofs.Told.{Goes, Stops, ToldBy, before_itself, read_on, text_told}
 
 -- what is read of a whole text
@@ -131,7 +130,7 @@ begins rows t all lead =
     let more : List Line = ending t in
     let h = rows_held (rows ++ more) (rows_append rows more all (ending_rows t)) (stages_append rows more stage.Budget t lead ∙ ending_leads t (stages_later rows stage.Budget t tt lead)) in
     let text : (fed_line first_line ++ rows_text rows) ++ rows_text more ≡ fed_line first_line ++ rows_text (rows ++ more) =
-        append_assoc (fed_line first_line) (rows_text rows) (rows_text more) ∙ ap (λ t. fed_line first_line ++ t) (sym (flat_append rows more)) in
+    append_assoc (fed_line first_line) (rows_text rows) (rows_text more) ∙ ap (λ t. fed_line first_line ++ t) (sym (flat_append rows more)) in
     record { whole = h.whole; more = rows_text more; holds = record { is = h.holds.is; spelt = text ∙ h.holds.spelt } }
 
 begins_nothing : Begins []
@@ -180,7 +179,7 @@ no_end text at c e h =
 no_more : (front line : List ℕ) (k : ℕ) → ((behind : List ℕ) → (read_all (front ++ (line ++ 10 ∷ behind))).1 ≡ stopped k) → Begins (front ++ (line ++ 10 ∷ [])) → ⊥
 no_more front line k stop b =
     let text : (front ++ (line ++ 10 ∷ [])) ++ b.more ≡ front ++ (line ++ 10 ∷ b.more) =
-        append_assoc front (line ++ 10 ∷ []) b.more ∙ ap (λ t. front ++ t) (append_assoc line (10 ∷ []) b.more) in
+    append_assoc front (line ++ 10 ∷ []) b.more ∙ ap (λ t. front ++ t) (append_assoc line (10 ∷ []) b.more) in
     let r = holds_read _ b.whole b.holds in
     let s : (read_all ((front ++ (line ++ 10 ∷ [])) ++ b.more)).1 ≡ stopped k = ap (λ t. (read_all t).1) text ∙ stop b.more in
     not_both {P = ⊥} stage.Ended [] _ k (sym s ∙ ap (λ r. r.1) r)
@@ -214,10 +213,12 @@ stops_told text more k is h =
       starts = whole_append (fed_line first_line) (rows_text h.rows) (whole_line first_line) (whole_rows h.rows);
       one_line = h.one_line;
       good = begins h.rows h.to h.all h.lead;
-      bad = inr (is ∙ front_text h.rows more (h.line ++ 10 ∷ h.behind) h.spelt,
+      bad = inr (
+        is ∙ front_text h.rows more (h.line ++ 10 ∷ h.behind) h.spelt,
         no_more (front_of h.rows) h.line (17 + length (rows_text h.rows)) (λ behind.
             ap (λ r. r.1) (behind_front h.rows h.to (h.line ++ 10 ∷ behind) h.all h.lead)
-            ∙ ap (λ r. r.1) (line_stops h.to (17 + length (rows_text h.rows)) h.line behind h.one_line h.bad)));
+            ∙ ap (λ r. r.1) (line_stops h.to (17 + length (rows_text h.rows)) h.line behind h.one_line h.bad)),
+      );
     }
 
 goes_told : (text more : List ℕ) (rows : List Line) (t : Stage) (line : List ℕ) (k : ℕ) → text ≡ behind_first more → Goes stage.Budget 17 more rows t line k → ((c : Certificate) → Holds text c → ⊥) → BadLineAt text k
@@ -256,8 +257,16 @@ bad_told text at e = elim (cases_of text) [
       record { before = []; line = text; behind = []; place = sym (fault_there stage.Header text 0 at k); starts = tt; one_line = l; good = begins_nothing; bad = inl (refl, λ c h. no_end text at c e h) }
   | other line behind is l none r ↦
       let k : fault_at_end (stopped 0) ≡ Some at = sym (ap (λ r. fault_at_end r.1) r) ∙ e in
-      record { before = []; line = line; behind = behind; place = sym (some_is 0 at k); starts = tt; one_line = l; good = begins_nothing;
-        bad = inr (is, no_more [] line 0 (λ behind. ap (λ r. r.1) (other_read line behind l none))) }
+      record {
+        before = [];
+        line = line;
+        behind = behind;
+        place = sym (some_is 0 at k);
+        starts = tt;
+        one_line = l;
+        good = begins_nothing;
+        bad = inr (is, no_more [] line 0 (λ behind. ap (λ r. r.1) (other_read line behind l none)));
+      }
   | first more is r ↦
       progress_told text more (read_text stage.Budget 17 more).0 (read_text stage.Budget 17 more).1 at is (text_told more stage.Budget 17 tt) (sym (ap (λ r. fault_at_end r.1) r) ∙ e) (λ c h. no_end text at c e h)
 ]
@@ -340,7 +349,7 @@ end_cases stage.Ended (b ∷ line) k = inl refl
 end_bad : (text before line : List ℕ) (c : Clear before (read_all before).1) → text ≡ before ++ line → Lacks 10 line → ((d : Certificate) → Holds text d → ⊥) → fault_at_end (read_all text).1 ≡ Some (length before)
 end_bad text before line c e l never =
     let r : (read_all text).1 ≡ going c.next line (length before) =
-        ap (λ t. (read_all t).1) e ∙ on_from before c line ∙ ap (λ parts. (read_lines c.next (length before) parts).1) (part_alone 10 line l) in
+    ap (λ t. (read_all t).1) e ∙ on_from before c line ∙ ap (λ parts. (read_lines c.next (length before) parts).1) (part_alone 10 line l) in
     elim (end_cases c.next line (length before)) [
       | inl fault ↦ ap fault_at_end r ∙ fault
       | inr over ↦ absurd (let h = reads_held text (length before) (r ∙ over) in never h.whole h.holds)
@@ -352,8 +361,8 @@ line_bad before line behind c l never None e = on_from before c (line ++ 10 ∷ 
 line_bad before line behind c l never (Some t) e =
     let k : ℕ = length before in
     let r : (read_all (before ++ (line ++ 10 ∷ []))).1 ≡ going t.1 [] (k + length line + 1) =
-        on_from before c (line ++ 10 ∷ []) ∙ ap (λ parts. (read_lines c.next k parts).1) (part_and 10 line [] l)
-        ∙ ap (λ r. r.1) (passes c.next k line _ (parts_of 10 []) t (some_parts 10 []) refl e) in
+    on_from before c (line ++ 10 ∷ []) ∙ ap (λ parts. (read_lines c.next k parts).1) (part_and 10 line [] l)
+    ∙ ap (λ r. r.1) (passes c.next k line _ (parts_of 10 []) t (some_parts 10 []) refl e) in
     absurd (never (going_begins (before ++ (line ++ 10 ∷ [])) t.1 (k + length line + 1) r))
 
 pub bad_only : (text : List ℕ) (at : ℕ) → BadLineAt text at → fault_at_end (read_all text).1 ≡ Some at

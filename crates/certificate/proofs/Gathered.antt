@@ -1,5 +1,5 @@
 -- The rows of one kind among all rows.
-use Rattle.std.proofs.Common.{◌≡◌, ◌∙◌, ◌++◌, ℕ, List, [], ◌∷◌, refl, sym, ap, ap₂, map, append-nil, append_assoc, true≢false, false}
+use Rattle.std.proofs.Common.{◌≡◌, ◌∙◌, ◌++◌, ℕ, List, [], ◌∷◌, refl, sym, ap, map, append-nil, true≢false, false}
 use Rattle.std.specs.Prelude.{Result, Ok, Err, MatchResult, is_err}
 use Rattle.certificate.specs.declared.cert.StretchRow.{StretchRow}
 use Rattle.certificate.specs.Rows.{Certificate, Function, Point}
@@ -60,13 +60,13 @@ gathered n rows = record { budget = budget_in n rows; functions = functions_in r
 pub gathered_rows : (n : ℕ) (c : Certificate) → gathered n (rows_of c) ≡ c
 gathered_rows n c =
     let b : budget_in n (rows_of c) ≡ c.budget =
-        budget_functions c.budget c.functions _ ∙ budget_stretches c.budget c.stretches _ ∙ budget_points c.budget c.points (end ∷ []) in
+    budget_functions c.budget c.functions _ ∙ budget_stretches c.budget c.stretches _ ∙ budget_points c.budget c.points (end ∷ []) in
     let f : functions_in (rows_of c) ≡ c.functions =
-        functions_functions c.functions _ ∙ ap (λ l. c.functions ++ l) (functions_stretches c.stretches _ ∙ functions_points c.points (end ∷ [])) ∙ append-nil c.functions in
+    functions_functions c.functions _ ∙ ap (λ l. c.functions ++ l) (functions_stretches c.stretches _ ∙ functions_points c.points (end ∷ [])) ∙ append-nil c.functions in
     let s : stretches_in (rows_of c) ≡ c.stretches =
-        stretches_functions c.functions _ ∙ stretches_stretches c.stretches _ ∙ ap (λ l. c.stretches ++ l) (stretches_points c.points (end ∷ [])) ∙ append-nil c.stretches in
+    stretches_functions c.functions _ ∙ stretches_stretches c.stretches _ ∙ ap (λ l. c.stretches ++ l) (stretches_points c.points (end ∷ [])) ∙ append-nil c.stretches in
     let p : points_in (rows_of c) ≡ c.points =
-        points_functions c.functions _ ∙ points_stretches c.stretches _ ∙ points_points c.points (end ∷ []) ∙ append-nil c.points in
+    points_functions c.functions _ ∙ points_stretches c.stretches _ ∙ points_points c.points (end ∷ []) ∙ append-nil c.points in
     λ i. record { budget = b i; functions = f i; stretches = s i; points = p i }
 
 pub one_certificate : (c d : Certificate) → rows_of c ≡ rows_of d → c ≡ d
@@ -107,11 +107,11 @@ budget_append n (end ∷ a) b = budget_append n a b
 
 pub gathered_more : (n : ℕ) (rows : List Line) (r : Line) → gathered n (rows ++ r ∷ []) ≡ with_row (gathered n rows) r
 gathered_more n rows r = (λ i. record {
-      budget = budget_append n rows (r ∷ []) i;
-      functions = functions_append rows (r ∷ []) i;
-      stretches = stretches_append rows (r ∷ []) i;
-      points = points_append rows (r ∷ []) i;
-    }) ∙ one_more (gathered n rows) r
+  budget = budget_append n rows (r ∷ []) i;
+  functions = functions_append rows (r ∷ []) i;
+  stretches = stretches_append rows (r ∷ []) i;
+  points = points_append rows (r ∷ []) i;
+}) ∙ one_more (gathered n rows) r
   where
     one_more : (c : Certificate) (r : Line) → record { budget = budget_in c.budget (r ∷ []); functions = c.functions ++ functions_in (r ∷ []); stretches = c.stretches ++ stretches_in (r ∷ []); points = c.points ++ points_in (r ∷ []) } ≡ with_row c r
     one_more c (budget m) = λ i. record { budget = m; functions = append-nil c.functions i; stretches = append-nil c.stretches i; points = append-nil c.points i }

@@ -1,7 +1,7 @@
 -- What facts spell.
-use Rattle.std.proofs.Common.{◌≡◌, ◌∙◌, ◌+◌, ◌-◌, ◌==◌, ◌≤◌, ◌<◌, ◌++◌, ◌⊎◌, ℕ, List, [], ◌∷◌, Option, Some, None, Bool, false, true, refl, sym, ap, ap₂, subst, length, arith, inl, inr, map, append_assoc, append-nil, length-append, eqb-true, le-leb, leb-true, lt-ltb, ltb-true, ltb-false, le-ltb}
-use Rattle.std.proofs.lemmas.Bool.{cases_Bool, and_parts, true≢false}
-use Rattle.std.specs.Prelude.{option_map, option_and_then, if◌then◌else◌, ◌&&◌, nat_le, nat_lt}
+use Rattle.std.proofs.Common.{◌≡◌, ◌∙◌, ◌+◌, ◌==◌, ◌≤◌, ◌++◌, ℕ, List, [], ◌∷◌, Some, None, Bool, false, true, refl, sym, ap, ap₂, subst, length, arith, inl, inr, map, append-nil, length-append, eqb-true, le-leb, leb-true, lt-ltb, ltb-false, le-ltb}
+use Rattle.std.proofs.lemmas.Bool.{cases_Bool, and_parts}
+use Rattle.std.specs.Prelude.{if◌then◌else◌, ◌&&◌, nat_le, nat_lt}
 use Rattle.std.specs.Str.{bytes_eq}
 use Rattle.std.specs.Fmt.{decimal}
 use Rattle.std.specs.List.{join_with_byte}
@@ -12,8 +12,8 @@ use Rattle.certificate.specs.Texts.{Lacks}
 use Rattle.certificate.specs.Grammar.{IsNumber, IsSlot, IsFact, AreFacts, rank}
 use Rattle.certificate.specs.Spelling.{fact_text, facts_text, slot_text}
 use Rattle.certificate.specs.Fields.{after_mark, before_mark, parts_of, number_of, slot_above, fact_from, fact_to, fact_behind_dot, fact_in, fact_of, facts_of, facts_field}
-use Rattle.certificate.proofs.Marks.{From, Plain, after_all, after_lacks, apart, before_all, before_lacks, cut_some, else_some, from_append, from_less, if_some, lacks_append, map_some, none_not, plain_from, plain_lacks, some_is, then_some}
-use Rattle.certificate.proofs.Numbers.{decimal_plain, decimal_some, number_back, number_told}
+use Rattle.certificate.proofs.Marks.{From, after_all, after_lacks, apart, before_all, before_lacks, cut_some, else_some, from_append, from_less, if_some, lacks_append, map_some, none_not, plain_from, plain_lacks, some_is, then_some}
+use Rattle.certificate.proofs.Numbers.{decimal_plain, number_back, number_told}
 use Rattle.certificate.proofs.Pieces.{some_parts}
 use Rattle.certificate.proofs.Lists.{AllFrom, AllLack, join_from, parts_back, parts_told}
 use Rattle.certificate.proofs.Parts.{above_back, above_told, join_longer, no_dash, slot_plain}
@@ -74,18 +74,22 @@ in_told x t f e =
     let n = number_told (before_mark 46 t) a.0 a.1 in
     let cut = cut_some 46 t f (fact_behind_dot x a.0) refl a.2 in
     let b = behind_told x a.0 (after_mark 46 t) f a.2 in
-    let told = b.2 in
-    (told.0, subst (λ l. l ≤ f.greatest) (sym told.1) told.2, told.3,
-     cut ∙ ap₂ (λ l r. l ++ 46 ∷ r) (n.1 ∙ ap decimal (sym told.1)) (b.1 ∙ ap (λ r. 46 ∷ r) told.4))
+    let told = b.2 in (
+      told.0,
+      subst (λ l. l ≤ f.greatest) (sym told.1) told.2,
+      told.3,
+      cut ∙ ap₂ (λ l r. l ++ 46 ∷ r) (n.1 ∙ ap decimal (sym told.1)) (b.1 ∙ ap (λ r. 46 ∷ r) told.4),
+    )
 
 pub fact_told : (low : ℕ) (t : List ℕ) (f : Fact) → fact_of low t ≡ Some f → IsFact low f × (t ≡ fact_text f)
 fact_told low t f e =
     let a = then_some (slot_above low (before_mark 61 t)) _ f e in
     let s = above_told low (before_mark 61 t) a.0 a.1 in
     let cut = cut_some 61 t f (fact_in a.0) refl a.2 in
-    let i = in_told a.0 (after_mark 61 t) f a.2 in
-    ((subst (λ y. low ≤ rank y) (sym i.0) s.0, subst IsSlot (sym i.0) s.1, i.1, i.2),
-     cut ∙ ap₂ (λ l r. l ++ 61 ∷ r) (s.2 ∙ ap slot_text (sym i.0)) i.3)
+    let i = in_told a.0 (after_mark 61 t) f a.2 in (
+      (subst (λ y. low ≤ rank y) (sym i.0) s.0, subst IsSlot (sym i.0) s.1, i.1, i.2),
+      cut ∙ ap₂ (λ l r. l ++ 61 ∷ r) (s.2 ∙ ap slot_text (sym i.0)) i.3,
+    )
 
 -- ---- and back
 
@@ -173,15 +177,19 @@ high_no_comma f g = lacks_append 44 (decimal f.greatest) _ (plain_lacks 44 _ (λ
 
 fact_from_33 : (low : ℕ) (f : Fact) → IsFact low f → From 33 (fact_text f)
 fact_from_33 low f h =
-    from_append 33 (slot_text f.of) _ (from_less 48 33 _ (omega arith) (plain_from _ (slot_plain f.of h.1)))
-    (omega arith, from_append 33 (decimal f.least) _ (from_less 48 33 _ (omega arith) (plain_from _ (decimal_plain f.least (let a = h.2 in let b = h.3 in small f.least (omega arith)))))
-        (omega arith, (omega arith, high_from 33 f (omega arith) h.3)))
+    from_append 33 (slot_text f.of) _ (from_less 48 33 _ (omega arith) (plain_from _ (slot_plain f.of h.1))) (
+      omega arith,
+      from_append 33 (decimal f.least) _ (from_less 48 33 _ (omega arith) (plain_from _ (decimal_plain f.least (let a = h.2 in let b = h.3 in small f.least (omega arith)))))
+          (omega arith, (omega arith, high_from 33 f (omega arith) h.3)),
+    )
 
 fact_no_comma : (low : ℕ) (f : Fact) → IsFact low f → Lacks 44 (fact_text f)
 fact_no_comma low f h =
-    lacks_append 44 (slot_text f.of) _ (plain_lacks 44 _ (λ b q e. let k = q.0 in omega arith) (slot_plain f.of h.1))
-    (refl, lacks_append 44 (decimal f.least) _ (plain_lacks 44 _ (λ b q e. let k = q.0 in omega arith) (decimal_plain f.least (let a = h.2 in let b = h.3 in small f.least (omega arith))))
-        (refl, (refl, high_no_comma f h.3)))
+    lacks_append 44 (slot_text f.of) _ (plain_lacks 44 _ (λ b q e. let k = q.0 in omega arith) (slot_plain f.of h.1)) (
+      refl,
+      lacks_append 44 (decimal f.least) _ (plain_lacks 44 _ (λ b q e. let k = q.0 in omega arith) (decimal_plain f.least (let a = h.2 in let b = h.3 in small f.least (omega arith))))
+          (refl, (refl, high_no_comma f h.3)),
+    )
 
 facts_no_comma : (low : ℕ) (fs : List Fact) → AreFacts low fs → AllLack 44 (map fact_text fs)
 facts_no_comma low [] h = tt

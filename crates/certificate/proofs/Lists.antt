@@ -1,10 +1,10 @@
 -- Parts with a mark between each two.
-use Rattle.std.proofs.Common.{◌≡◌, ◌∙◌, ◌+◌, ◌==◌, ◌≤◌, ◌<◌, ◌++◌, ℕ, List, [], ◌∷◌, Bool, false, true, refl, sym, ap, ap₂, length, arith, append_assoc, append-nil, eq-eqb, map}
+use Rattle.std.proofs.Common.{◌≡◌, ◌∙◌, ◌==◌, ◌≤◌, ◌++◌, ℕ, List, [], ◌∷◌, refl, ap, eq-eqb}
 use Rattle.std.specs.List.{join_with_byte, onto_first}
 use Rattle.std.proofs.lemmas.List.Splits.{slice_split-cons_no, slice_split-cons_yes, join_with_byte-slice_split}
 use Rattle.certificate.specs.Texts.{Lacks}
 use Rattle.certificate.specs.Fields.{parts_of}
-use Rattle.certificate.proofs.Marks.{From, from_append, lacks_append}
+use Rattle.certificate.proofs.Marks.{From, from_append}
 
 -- a part, its mark, and what is behind
 pub part_and : (m : ℕ) (a b : List ℕ) → Lacks m a → parts_of m (a ++ m ∷ b) ≡ a ∷ parts_of m b

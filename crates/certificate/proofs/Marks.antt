@@ -1,8 +1,8 @@
 -- Texts in which a mark stands nowhere, and texts that are cut at one.
-use Rattle.std.proofs.Common.{◌≡◌, ◌∙◌, ◌+◌, ◌==◌, ◌≤◌, ◌<◌, ◌++◌, ◌⊎◌, ℕ, List, [], ◌∷◌, Option, Some, None, Bool, false, true, refl, sym, ap, subst, length, arith, inl, inr, append_assoc, append-nil, take, drop, suc, ap₂, eq-eqb, ne_eqb, eqb-true}
+use Rattle.std.proofs.Common.{◌≡◌, ◌∙◌, ◌+◌, ◌==◌, ◌≤◌, ◌<◌, ◌++◌, ◌⊎◌, ℕ, List, [], ◌∷◌, Option, Some, None, Bool, false, true, refl, sym, ap, arith, inl, inr, take, drop, suc, ap₂, eq-eqb, ne_eqb, eqb-true}
 use Rattle.std.specs.List.{position_or_len}
-use Rattle.std.proofs.lemmas.Bool.{cases_Bool, and_parts, leb-true}
-use Rattle.std.specs.Prelude.{option_map, option_and_then, if◌then◌else◌, ◌&&◌}
+use Rattle.std.proofs.lemmas.Bool.{cases_Bool}
+use Rattle.std.specs.Prelude.{option_map, option_and_then, if◌then◌else◌}
 use Rattle.certificate.specs.Texts.{Lacks}
 use Rattle.certificate.specs.Fields.{after_mark, before_mark}
 

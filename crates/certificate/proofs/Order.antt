@@ -1,6 +1,6 @@
 -- Rows in their order are those of a certificate.
-use Rattle.std.proofs.Common.{◌≡◌, ◌∙◌, ◌+◌, ◌≤◌, ◌<◌, ◌++◌, ◌⊎◌, ℕ, List, [], ◌∷◌, Option, Some, None, Bool, false, true, refl, sym, ap, ap₂, subst, length, arith, inl, inr, map, append_assoc, append-nil, le-leb, leb-true}
-use Rattle.std.specs.Prelude.{option_map, option_and_then, if◌then◌else◌, nat_le}
+use Rattle.std.proofs.Common.{◌≡◌, ◌∙◌, ◌+◌, ◌≤◌, ◌++◌, ℕ, List, [], ◌∷◌, Option, Some, None, true, refl, ap, subst, length, arith, map, le-leb, leb-true}
+use Rattle.std.specs.Prelude.{option_and_then, nat_le}
 use Rattle.certificate.specs.declared.cert.StretchRow.{StretchRow}
 use Rattle.certificate.specs.declared.state.Stage.{Stage}
 use Rattle.certificate.specs.declared.state.Stage.TheVariants as stage

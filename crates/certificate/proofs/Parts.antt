@@ -1,7 +1,7 @@
 -- What spans, slots and facts spell.
-use Rattle.std.proofs.Common.{◌≡◌, ◌∙◌, ◌+◌, ◌-◌, ◌/◌, ◌%◌, ◌==◌, ◌≤◌, ◌<◌, ◌++◌, ◌⊎◌, ℕ, List, [], ◌∷◌, Option, Some, None, Bool, false, true, refl, sym, ap, ap₂, subst, length, arith, inl, inr, map, append_assoc, append-nil, length-append, eq-eqb, ne_eqb, eqb-true, le-leb, leb-true, lt-ltb, ltb-true, ltb-false, le-ltb}
-use Rattle.std.proofs.lemmas.Bool.{cases_Bool, and_parts, and_from, and_left, true≢false}
-use Rattle.std.specs.Prelude.{option_map, option_and_then, if◌then◌else◌, ◌&&◌, ◌||◌, nat_le, nat_lt}
+use Rattle.std.proofs.Common.{◌≡◌, ◌∙◌, ◌+◌, ◌/◌, ◌%◌, ◌==◌, ◌≤◌, ◌<◌, ◌++◌, ◌⊎◌, ℕ, List, [], ◌∷◌, Some, Bool, false, true, refl, sym, ap, subst, length, arith, inl, inr, map, length-append, ne_eqb, eqb-true, le-leb, leb-true}
+use Rattle.std.proofs.lemmas.Bool.{cases_Bool, and_parts, true≢false}
+use Rattle.std.specs.Prelude.{◌&&◌, ◌||◌, nat_le, nat_lt}
 use Rattle.std.specs.Str.{bytes_eq}
 use Rattle.std.specs.Fmt.{decimal}
 use Rattle.std.specs.List.{join_with_byte}
@@ -10,13 +10,12 @@ use Rattle.base_io.specs.Digits.{hex_digit, hex_word}
 use Rattle.certificate.specs.declared.cert.Span.{Span}
 use Rattle.certificate.specs.declared.cert.Slot.{Slot}
 use Rattle.certificate.specs.declared.cert.Slot.TheVariants.{Reg, Word}
-use Rattle.certificate.specs.declared.cert.Fact.{Fact}
 use Rattle.certificate.specs.Texts.{Lacks}
-use Rattle.certificate.specs.Grammar.{IsNumber, IsSpan, AreSpans, IsSlot, IsFact, AreFacts, is_data, is_sram, rank}
-use Rattle.certificate.specs.Spelling.{fact_text, facts_text, parts, slot_text, span_text, spans_text}
-use Rattle.certificate.specs.Fields.{after_mark, before_mark, parts_of, number_of, word_of, span_from, span_of, spans_of, spans_field, register_of, address_of, slot_of, slot_above, fact_from, fact_to, fact_behind_dot, fact_in, fact_of, facts_of, facts_field}
-use Rattle.certificate.proofs.Marks.{From, IsPlain, Plain, after_all, after_lacks, apart, before_all, before_lacks, cut_some, else_some, from_append, if_none, if_some, lacks_append, lacks_below, map_some, none_not, plain_append, plain_from, plain_lacks, some_is, then_some, from_less}
-use Rattle.certificate.proofs.Numbers.{decimal_plain, decimal_some, hex_plain, number_back, number_told, word_back, word_told}
+use Rattle.certificate.specs.Grammar.{IsSpan, AreSpans, IsSlot, is_data, is_sram, rank}
+use Rattle.certificate.specs.Spelling.{parts, slot_text, span_text, spans_text}
+use Rattle.certificate.specs.Fields.{parts_of, number_of, word_of, span_from, span_of, spans_of, spans_field, register_of, address_of, slot_of, slot_above}
+use Rattle.certificate.proofs.Marks.{From, Plain, from_append, if_none, if_some, lacks_append, map_some, none_not, plain_from, plain_lacks, some_is, then_some, from_less}
+use Rattle.certificate.proofs.Numbers.{decimal_plain, hex_plain, number_back, number_told, word_back, word_told}
 use Rattle.certificate.proofs.Pieces.{some_parts}
 use Rattle.certificate.proofs.Lists.{AllFrom, AllLack, join_from, parts_back, parts_told}
 
@@ -84,7 +83,7 @@ span_from_33 : (low : ℕ) (s : Span) → IsSpan low s → From 33 (span_text s)
 span_from_33 low s h =
     let lo : s.lo < 65536 = let a = h.1 in let b = h.2 in omega arith in
     from_append 33 (hex_word s.lo) (45 ∷ hex_word s.hi) (from_less 48 33 (hex_word s.lo) (omega arith) (plain_from (hex_word s.lo) (hex_plain s.lo lo)))
-        (omega arith, from_less 48 33 (hex_word s.hi) (omega arith) (plain_from (hex_word s.hi) (hex_plain s.hi h.2)))
+    (omega arith, from_less 48 33 (hex_word s.hi) (omega arith) (plain_from (hex_word s.hi) (hex_plain s.hi h.2)))
 
 plain_no_comma : (t : List ℕ) → Plain t → Lacks 44 t
 plain_no_comma t p = plain_lacks 44 t (λ b q e. let low = q.0 in omega arith) p

@@ -1,13 +1,13 @@
 -- Where the unfinished line of a text begins.
-use Rattle.std.proofs.Common.{◌≡◌, ◌∙◌, ◌+◌, ◌^◌, ◌==◌, ◌≤◌, ◌<◌, ◌++◌, ℕ, List, [], ◌∷◌, Option, Some, None, refl, sym, ap, subst, length, arith, length-append}
-use Rattle.std.specs.Prelude.{Result, Ok, Err, option_to_list}
+use Rattle.std.proofs.Common.{◌≡◌, ◌+◌, ◌^◌, ◌≤◌, ◌<◌, ◌++◌, ℕ, List, [], ◌∷◌, Option, Some, None, refl, sym, subst, length, arith, length-append}
+use Rattle.std.specs.Prelude.{Result, Ok, Err}
 use Rattle.std.specs.List.{join_with_byte}
 use Rattle.certificate.specs.declared.state.Stage.{Stage}
 use Rattle.certificate.specs.declared.fault.CertText.{CertText}
 use Rattle.certificate.specs.declared.fault.CertText.TheVariants as fault
 use Rattle.certificate.specs.Line.{Line}
 use Rattle.certificate.specs.Fields.{parts_of}
-use Rattle.certificate.specs.Reading.{Feeds, HasRoom, Progress, Taken, behind_rows, fed, going, read_line, read_lines, read_text, stopped, stopped_at}
+use Rattle.certificate.specs.Reading.{Feeds, HasRoom, Progress, Taken, fed, going, read_line, read_lines, read_text, stopped}
 use Rattle.certificate.proofs.Lists.{parts_told}
 use Rattle.certificate.proofs.Passing.{passes}
 use Rattle.certificate.proofs.Pieces.{some_parts}
@@ -27,9 +27,9 @@ by_line line next rest s at below None e =
     subst (λ r. EndsAt (at + length (line ++ 10 ∷ join_with_byte 10 (next ∷ rest))) r.1) (sym (stops s at line (next ∷ rest) (omega arith) e)) tt
 by_line line next rest s at below (Some t) e =
     let size : at + length line + 1 + length (join_with_byte 10 (next ∷ rest)) ≡ at + length (line ++ 10 ∷ join_with_byte 10 (next ∷ rest)) =
-        omega (arith, length-append line (10 ∷ join_with_byte 10 (next ∷ rest))) in
+    omega (arith, length-append line (10 ∷ join_with_byte 10 (next ∷ rest))) in
     subst (λ r. EndsAt (at + length (line ++ 10 ∷ join_with_byte 10 (next ∷ rest))) r.1) (sym (passes s at line (line ∷ next ∷ rest) (next ∷ rest) t (omega arith) refl e))
-        (subst (λ n. EndsAt n (read_lines t.1 (at + length line + 1) (next ∷ rest)).1) size (below t.1 (at + length line + 1)))
+    (subst (λ n. EndsAt n (read_lines t.1 (at + length line + 1) (next ∷ rest)).1) size (below t.1 (at + length line + 1)))
 
 all_end : (parts : List (List ℕ)) → 1 ≤ length parts → AllEndAt parts
 all_end [] some s at = absurd (omega arith)

@@ -1,7 +1,7 @@
 -- What rows spell.
-use Rattle.std.proofs.Common.{◌≡◌, ◌∙◌, ◌+◌, ◌==◌, ◌≤◌, ◌<◌, ◌++◌, ◌⊎◌, ℕ, List, [], ◌∷◌, Option, Some, None, Bool, false, true, refl, sym, ap, ap₂, subst, length, arith, inl, inr}
+use Rattle.std.proofs.Common.{◌≡◌, ◌∙◌, ◌<◌, ◌++◌, ℕ, List, [], ◌∷◌, Option, Some, None, true, refl, ap, ap₂, subst, arith, inl, inr}
 use Rattle.std.proofs.lemmas.Bool.{cases_Bool}
-use Rattle.std.specs.Prelude.{option_map, option_and_then, if◌then◌else◌, codes, ◌&&◌}
+use Rattle.std.specs.Prelude.{option_map, if◌then◌else◌, codes, ◌&&◌}
 use Rattle.std.specs.Str.{bytes_eq}
 use Rattle.std.specs.Fmt.{decimal}
 use Rattle.std.proofs.lemmas.Slice.Eq.{bytes_eq-Decides}
@@ -11,12 +11,12 @@ use Rattle.certificate.specs.Rows.{Flat, Function, Point}
 use Rattle.certificate.specs.Line.{Line, budget, function, stretch, point, end}
 use Rattle.certificate.specs.Texts.{Lacks}
 use Rattle.certificate.specs.Grammar.{IsFlat, IsFunction, IsNumber, IsPoint, IsRow, IsStretch, all_fresh, all_have_facts}
-use Rattle.certificate.specs.Spelling.{facts_text, fields, flat_text, row_text, spans_text, spent_text}
-use Rattle.certificate.specs.Fields.{after_mark, before_mark, facts_field, number_of, spans_field, word_of}
+use Rattle.certificate.specs.Spelling.{facts_text, flat_text, row_text, spans_text, spent_text}
+use Rattle.certificate.specs.Fields.{facts_field, number_of, spans_field, word_of}
 use Rattle.certificate.specs.Sums.{spent_field}
 use Rattle.certificate.specs.Lines.{field, flat_in, function_in, good_point, kind_in, point_in, rest, stretch_in}
 use Rattle.certificate.specs.Reading.{read_row}
-use Rattle.certificate.proofs.Marks.{From, after_all, after_lacks, before_all, before_lacks, cut_some, either, from_less, if_none, if_some, lacks_append, lacks_below, map_some, none_not, plain_from, some_is, then_some}
+use Rattle.certificate.proofs.Marks.{From, after_lacks, before_lacks, cut_some, either, from_less, if_none, if_some, lacks_append, lacks_below, map_some, plain_from, some_is, then_some}
 use Rattle.certificate.proofs.Numbers.{decimal_plain, hex_plain, number_back, number_told, word_back, word_told}
 use Rattle.certificate.proofs.Parts.{spans_field_back, spans_field_told, spans_text_from}
 use Rattle.certificate.proofs.Known.{facts_field_back, facts_field_told, facts_text_from}
@@ -82,8 +82,8 @@ stretch_back s h =
     let b = number_low s.chain h.1 in
     let c = number_low s.turns h.2 in
     stretch_by (stretch_body s) (with_blank (decimal s.chain) (with_blank (decimal s.turns) (decimal s.cost))) (with_blank (decimal s.turns) (decimal s.cost)) (hex_word s.head) (decimal s.chain) (decimal s.turns) (decimal s.cost) s
-        (front _ _ a) (back (hex_word s.head) _ a) (front _ (with_blank (decimal s.turns) (decimal s.cost)) b) (back _ _ b) (front _ (decimal s.cost) c) (back _ _ c)
-        (word_back s.head h.0) (number_back s.chain h.1) (number_back s.turns h.2) (number_back s.cost h.3)
+    (front _ _ a) (back (hex_word s.head) _ a) (front _ (with_blank (decimal s.turns) (decimal s.cost)) b) (back _ _ b) (front _ (decimal s.cost) c) (back _ _ c)
+    (word_back s.head h.0) (number_back s.chain h.1) (number_back s.turns h.2) (number_back s.cost h.3)
 
 stretch_lacks : (s : StretchRow) → IsStretch s → Lacks 10 (stretch_body s)
 stretch_lacks s h =
@@ -166,8 +166,8 @@ function_back f h =
     let b = word_low f.end h.1 in
     let c = number_low f.height h.2 in
     function_by (function_body f) (with_blank (hex_word f.end) (with_blank (decimal f.height) (flat_text f.flat))) (with_blank (decimal f.height) (flat_text f.flat)) (hex_word f.start) (hex_word f.end) (decimal f.height) (flat_text f.flat) f
-        (front _ _ a) (back (hex_word f.start) _ a) (front _ (with_blank (decimal f.height) (flat_text f.flat)) b) (back (hex_word f.end) _ b) (front _ (flat_text f.flat) c) (back _ _ c)
-        (word_back f.start h.0) (word_back f.end h.1) (number_back f.height h.2) (kind_back f.flat h.3)
+    (front _ _ a) (back (hex_word f.start) _ a) (front _ (with_blank (decimal f.height) (flat_text f.flat)) b) (back (hex_word f.end) _ b) (front _ (flat_text f.flat) c) (back _ _ c)
+    (word_back f.start h.0) (word_back f.end h.1) (number_back f.height h.2) (kind_back f.flat h.3)
 
 function_lacks : (f : Function) → IsFunction f → Lacks 10 (function_body f)
 function_lacks f h =
@@ -213,13 +213,13 @@ point_back p h =
     let together = h.together in
     let good : good_point p ≡ Some p = rw together refl in
     point_by (point_body p) (with_blank (hex_word p.stretch) (with_blank (spent_text p.spent) (with_blank (facts_text p.facts) (spans_text p.fresh)))) (with_blank (spent_text p.spent) (with_blank (facts_text p.facts) (spans_text p.fresh))) (with_blank (facts_text p.facts) (spans_text p.fresh)) (hex_word p.address) (hex_word p.stretch) (spent_text p.spent) (facts_text p.facts) (spans_text p.fresh) p
-        (front _ _ a) (back (hex_word p.address) _ a) (front _ (with_blank (spent_text p.spent) (with_blank (facts_text p.facts) (spans_text p.fresh))) b) (back (hex_word p.stretch) _ b) (front _ (with_blank (facts_text p.facts) (spans_text p.fresh)) c) (back _ _ c) (front _ (spans_text p.fresh) d) (back _ _ d)
-        (word_back p.address h.address) (word_back p.stretch h.stretch) (spent_back p.spent h.spent) (facts_field_back p.facts h.facts) (spans_field_back p.fresh h.spans) good
+    (front _ _ a) (back (hex_word p.address) _ a) (front _ (with_blank (spent_text p.spent) (with_blank (facts_text p.facts) (spans_text p.fresh))) b) (back (hex_word p.stretch) _ b) (front _ (with_blank (facts_text p.facts) (spans_text p.fresh)) c) (back _ _ c) (front _ (spans_text p.fresh) d) (back _ _ d)
+    (word_back p.address h.address) (word_back p.stretch h.stretch) (spent_back p.spent h.spent) (facts_field_back p.facts h.facts) (spans_field_back p.fresh h.spans) good
 
 point_lacks : (p : Point) → IsPoint p → Lacks 10 (point_body p)
 point_lacks p h =
     blank_no_feed (hex_word p.address) (with_blank (hex_word p.stretch) (with_blank (spent_text p.spent) (with_blank (facts_text p.facts) (spans_text p.fresh)))) (word_low p.address h.address) (blank_no_feed (hex_word p.stretch) _ (word_low p.stretch h.stretch) (blank_no_feed _ _ (spent_text_from p.spent h.spent)
-        (blank_no_feed _ _ (facts_text_from p.facts h.facts) (no_feed _ (spans_text_from p.fresh h.spans)))))
+    (blank_no_feed _ _ (facts_text_from p.facts h.facts) (no_feed _ (spans_text_from p.fresh h.spans)))))
 
 -- ---- Rows
 

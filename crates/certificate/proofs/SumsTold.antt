@@ -1,17 +1,16 @@
 -- What sums spell.
-use Rattle.std.proofs.Common.{◌≡◌, ◌∙◌, ◌+◌, ◌-◌, ◌==◌, ◌≤◌, ◌<◌, ◌++◌, ◌⊎◌, ℕ, ℤ, pos, negsuc, List, [], ◌∷◌, Option, Some, None, Bool, false, true, refl, sym, ap, ap₂, subst, length, arith, inl, inr, map, suc, append_assoc, append-nil, length-append, eqb-true, ne_eqb, le-leb, leb-true}
-use Rattle.std.proofs.lemmas.Bool.{cases_Bool, eqb-false, and_parts, or_cases, or_from, true≢false}
-use Rattle.std.specs.Prelude.{option_map, option_and_then, if◌then◌else◌, ◌&&◌, ◌||◌, nat_le, nat_lt, flat_map}
+use Rattle.std.proofs.Common.{◌≡◌, ◌∙◌, ◌+◌, ◌-◌, ◌==◌, ◌≤◌, ◌<◌, ◌++◌, ℕ, ℤ, pos, negsuc, List, [], ◌∷◌, Some, Bool, false, true, refl, sym, ap, ap₂, subst, length, arith, inl, inr, map, suc, eqb-true, ne_eqb, le-leb, leb-true}
+use Rattle.std.proofs.lemmas.Bool.{cases_Bool, eqb-false, or_cases, or_from, true≢false}
+use Rattle.std.specs.Prelude.{option_and_then, if◌then◌else◌, nat_le, flat_map}
 use Rattle.std.specs.Fmt.{decimal, signed_decimal}
-use Rattle.certificate.specs.declared.cert.Slot.{Slot}
 use Rattle.certificate.specs.declared.cert.Term.{Term}
 use Rattle.certificate.specs.Rows.{Spent}
 use Rattle.certificate.specs.Texts.{Lacks}
-use Rattle.certificate.specs.Grammar.{IsNumber, IsBase, IsSlot, IsTerm, AreTerms, IsSpent, rank}
+use Rattle.certificate.specs.Grammar.{IsNumber, IsBase, IsTerm, AreTerms, IsSpent, rank}
 use Rattle.certificate.specs.Spelling.{slot_text, spent_text, term_text}
 use Rattle.certificate.specs.Fields.{after_mark, before_mark, number_of, slot_above}
 use Rattle.certificate.specs.Sums.{Signed, base_from, few_terms, is_sign, spent_field, sum_of, sum_parts, term_of, terms_of, with_byte}
-use Rattle.certificate.proofs.Marks.{From, IsPlain, Plain, after_lacks, before_lacks, cut_some, either, else_some, from_append, from_less, if_some, map_some, none_not, plain_append, plain_from, plain_lacks, some_is, then_some}
+use Rattle.certificate.proofs.Marks.{From, Plain, after_lacks, before_lacks, cut_some, either, else_some, from_append, from_less, if_some, map_some, none_not, plain_from, plain_lacks, some_is, then_some}
 use Rattle.certificate.proofs.Numbers.{decimal_plain, decimal_some, number_back, number_told}
 use Rattle.certificate.proofs.Parts.{above_back, above_told, slot_plain}
 
@@ -135,8 +134,8 @@ terms_from : (low : ℕ) (ts : List Term) → AreTerms low ts → From 33 (flat_
 terms_from low [] h = tt
 terms_from low (t ∷ ts) h =
     from_append 33 (term_text t) (flat_map term_text ts)
-        (sign_low t.minus, from_append 33 (decimal t.factor) _ (from_less 48 33 _ (omega arith) (plain_from _ (decimal_plain t.factor h.0.2))) (omega arith, from_less 48 33 _ (omega arith) (plain_from _ (slot_plain t.of h.0.1))))
-        (terms_from (rank t.of + 1) ts h.1)
+    (sign_low t.minus, from_append 33 (decimal t.factor) _ (from_less 48 33 _ (omega arith) (plain_from _ (decimal_plain t.factor h.0.2))) (omega arith, from_less 48 33 _ (omega arith) (plain_from _ (slot_plain t.of h.0.1))))
+    (terms_from (rank t.of + 1) ts h.1)
   where
     sign_low : (m : Bool) → 33 ≤ sign_of m
     sign_low true = omega arith
@@ -169,7 +168,7 @@ sum_of_told minus t s e =
     let f = few_told d.0 c.0 d.2 in
     let ts = terms_told 0 ((sum_parts t).1) d.0 d.1 in
     subst (SumTold minus t) c.2
-        (a.0, n.0, b.1, f.0, subst (AreTerms 0) f.1 ts.0, sum_told t ∙ ap₂ (λ l r. l ++ r) n.1 (ts.1 ∙ ap (flat_map term_text) f.1))
+    (a.0, n.0, b.1, f.0, subst (AreTerms 0) f.1 ts.0, sum_told t ∙ ap₂ (λ l r. l ++ r) n.1 (ts.1 ∙ ap (flat_map term_text) f.1))
 
 minus_told : (n : ℕ) (z : ℤ) → IsNumber n → base_from true n ≡ Some z → IsBase z × (45 ∷ decimal n ≡ signed_decimal z)
 minus_told n z l e =

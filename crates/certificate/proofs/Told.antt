@@ -1,27 +1,24 @@
 -- What has been read of a text.
-use Rattle.std.proofs.Common.{◌≡◌, ◌∙◌, ◌+◌, ◌==◌, ◌≤◌, ◌<◌, ◌++◌, ◌⊎◌, ℕ, List, [], ◌∷◌, Option, Some, None, Bool, false, true, refl, sym, ap, ap₂, subst, length, arith, inl, inr, append_assoc, append-nil, length-append, eqb-true}
+use Rattle.std.proofs.Common.{◌≡◌, ◌∙◌, ◌+◌, ◌==◌, ◌≤◌, ◌++◌, ℕ, List, [], ◌∷◌, Option, Some, None, false, refl, sym, ap, subst, length, arith, inl, inr, append_assoc, length-append}
 use Rattle.std.proofs.lemmas.Bool.{cases_Bool}
-use Rattle.std.specs.Prelude.{option_map, option_and_then, option_to_list, if◌then◌else◌}
+use Rattle.std.specs.Prelude.{option_and_then, option_to_list}
 use Rattle.std.specs.List.{join_with_byte, onto_first}
-use Rattle.std.specs.Str.{bytes_eq}
 use Rattle.std.proofs.lemmas.List.Splits.{slice_split-cons_no, slice_split-cons_yes}
-use Rattle.std.proofs.lemmas.Slice.Eq.{bytes_eq-Decides}
 use Rattle.certificate.specs.declared.state.Stage.{Stage}
 use Rattle.certificate.specs.declared.state.Stage.TheVariants as stage
-use Rattle.certificate.specs.Rows.{Certificate}
-use Rattle.certificate.specs.Line.{Line, rows_of}
-use Rattle.certificate.specs.Grammar.{IsCertificate, IsRow}
-use Rattle.certificate.specs.Spelling.{fed_line, first_line, row_text, rows_text, text_of}
-use Rattle.certificate.specs.Texts.{AreWhole, Begins, Holds, Lacks}
-use Rattle.certificate.specs.Fields.{after_mark, before_mark, parts_of}
-use Rattle.certificate.specs.Reading.{Progress, Taken, behind_rows, going, header, read_line, read_lines, read_row, read_text, row_line, stage_behind, stopped, stopped_at}
-use Rattle.certificate.proofs.Marks.{apart, before_no, before_yes, if_some, map_some, none_not, some_is, then_some}
-use Rattle.certificate.proofs.Lists.{AllLack, part_alone, part_and, parts_told}
+use Rattle.certificate.specs.Line.{Line}
+use Rattle.certificate.specs.Grammar.{IsRow}
+use Rattle.certificate.specs.Spelling.{row_text, rows_text}
+use Rattle.certificate.specs.Texts.{Lacks}
+use Rattle.certificate.specs.Fields.{before_mark, parts_of}
+use Rattle.certificate.specs.Reading.{Progress, Taken, behind_rows, going, read_line, read_lines, read_row, read_text, row_line, stage_behind, stopped}
+use Rattle.certificate.proofs.Marks.{before_no, before_yes, map_some, some_is, then_some}
+use Rattle.certificate.proofs.Lists.{AllLack, part_and, parts_told}
 use Rattle.certificate.proofs.Passing.{passes}
 use Rattle.certificate.proofs.Pieces.{some_parts}
 use Rattle.certificate.proofs.TwoPieces.{stops}
 use Rattle.certificate.proofs.RowsTold.{row_back, row_lacks, row_told}
-use Rattle.certificate.proofs.Order.{AllRows, IsLater, certificate_leads, certificate_rows, certificate_told, ending, ending_leads, ending_rows, later, rows_append, stages, stages_append, stages_later}
+use Rattle.certificate.proofs.Order.{AllRows, IsLater, later, stages}
 
 -- ---- Lines
 
@@ -132,7 +129,7 @@ told_row : (s : Stage) (at : ℕ) (line text : List ℕ) (t : Taken) (r : List L
     → ToldOf s at (line ++ 10 ∷ text) (behind_rows (option_to_list t.0) r)
 told_row s at line text t r h told =
     subst (λ o. ToldOf s at (line ++ 10 ∷ text) (behind_rows (option_to_list o) r)) (sym h.gives)
-        (prepend s t.1 at line text h.row r.0 r.1 h.is h.text h.leads told)
+    (prepend s t.1 at line text h.row r.0 r.1 h.is h.text h.leads told)
 
 abbrev IsTold : List (List ℕ) → Type 0
 IsTold parts = (s : Stage) (at : ℕ) → IsLater s → ToldOf s at (join_with_byte 10 parts) (read_lines s at parts)
@@ -141,11 +138,11 @@ by_line : (line next : List ℕ) (rest : List (List ℕ)) (s : Stage) (at : ℕ)
     → ToldOf s at (line ++ 10 ∷ join_with_byte 10 (next ∷ rest)) (read_lines s at (line ∷ next ∷ rest))
 by_line line next rest s at l lacks below None e =
     subst (ToldOf s at (line ++ 10 ∷ join_with_byte 10 (next ∷ rest))) (sym (stops s at line (next ∷ rest) (omega arith) e))
-        (record { rows = []; to = s; line = line; behind = join_with_byte 10 (next ∷ rest); all = tt; lead = refl; spelt = refl; place = omega arith; one_line = lacks; bad = e })
+    (record { rows = []; to = s; line = line; behind = join_with_byte 10 (next ∷ rest); all = tt; lead = refl; spelt = refl; place = omega arith; one_line = lacks; bad = e })
 by_line line next rest s at l lacks below (Some t) e =
     let k = line_told s line t l e in
     subst (ToldOf s at (line ++ 10 ∷ join_with_byte 10 (next ∷ rest))) (sym (passes s at line (line ∷ next ∷ rest) (next ∷ rest) t (omega arith) refl e))
-        (told_row s at line (join_with_byte 10 (next ∷ rest)) t (read_lines t.1 (at + length line + 1) (next ∷ rest)) k (below t.1 (at + length line + 1) (later s k.row t.1 k.leads)))
+    (told_row s at line (join_with_byte 10 (next ∷ rest)) t (read_lines t.1 (at + length line + 1) (next ∷ rest)) k (below t.1 (at + length line + 1) (later s k.row t.1 k.leads)))
 
 lines_told : (parts : List (List ℕ)) → 1 ≤ length parts → AllLack 10 parts → IsTold parts
 lines_told [] some h s at l = absurd (omega arith)
@@ -168,7 +165,7 @@ read_on (r ∷ rows) s t at more l h e =
     let line : List ℕ = row_text r in
     let is = line_by s line r a.0 l (row_back r h.0) a.1 in
     let cut : parts_of 10 (rows_text (r ∷ rows) ++ more) ≡ line ∷ parts_of 10 (rows_text rows ++ more) =
-        ap (parts_of 10) (sym (longer line (rows_text rows) more)) ∙ part_and 10 line (rows_text rows ++ more) (row_lacks r h.0) in
+    ap (parts_of 10) (sym (longer line (rows_text rows) more)) ∙ part_and 10 line (rows_text rows ++ more) (row_lacks r h.0) in
     let below = read_on rows a.0 t (at + length line + 1) more (later s r a.0 a.1) h.1 a.2 in
     let n : at + length line + 1 + length (rows_text rows) ≡ at + length (rows_text (r ∷ rows)) = sizes at (length (rows_text rows)) line (rows_text rows) refl in
     ap (read_lines s at) cut

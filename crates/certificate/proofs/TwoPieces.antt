@@ -1,5 +1,5 @@
 -- However a text is cut in two, its rows are the same.
-use Rattle.std.proofs.Common.{◌≡◌, ◌∙◌, ◌+◌, ◌==◌, ◌≤◌, ◌++◌, ℕ, List, [], ◌∷◌, Option, Some, None, false, true, refl, sym, ap, length, arith, inl, inr, append_assoc, append-nil}
+use Rattle.std.proofs.Common.{◌≡◌, ◌∙◌, ◌+◌, ◌==◌, ◌≤◌, ◌++◌, ℕ, List, [], ◌∷◌, Option, Some, None, false, refl, sym, ap, length, arith, inl, inr, append_assoc, append-nil}
 use Rattle.std.specs.Prelude.{option_to_list}
 use Rattle.std.specs.List.{onto_first}
 use Rattle.std.proofs.lemmas.Bool.{cases_Bool}
@@ -7,7 +7,7 @@ use Rattle.std.proofs.lemmas.List.Splits.{slice_split-cons_no}
 use Rattle.certificate.specs.declared.state.Stage.{Stage}
 use Rattle.certificate.specs.Fields.{parts_of}
 use Rattle.certificate.specs.Line.{Line}
-use Rattle.certificate.specs.Reading.{Progress, Taken, behind_rows, fed, going, read_line, read_lines, read_text, stopped, stopped_at}
+use Rattle.certificate.specs.Reading.{Progress, Taken, behind_rows, fed, read_line, read_lines, stopped_at}
 use Rattle.certificate.proofs.Passing.{passes}
 use Rattle.certificate.proofs.Pieces.{behind_part, part_done, part_on, some_parts}
 
@@ -56,7 +56,7 @@ module _ (b : List ℕ) where
       let r : List Line × Progress = read_lines t.1 k (parts_of 10 a) in
       let rows : List Line = option_to_list t.0 in
       let below : read_lines t.1 k (parts_of 10 (a ++ b)) ≡ go_on r b =
-          ap (read_lines t.1 k) (sym (behind_none (parts_of 10 (a ++ b)))) ∙ law t.1 k ∙ ap (λ parts. go_on (read_lines t.1 k parts) b) (behind_none (parts_of 10 a)) in
+      ap (read_lines t.1 k) (sym (behind_none (parts_of 10 (a ++ b)))) ∙ law t.1 k ∙ ap (λ parts. go_on (read_lines t.1 k parts) b) (behind_none (parts_of 10 a)) in
       passes s at line _ (parts_of 10 (a ++ b)) t (some_parts 10 (a ++ b)) refl e
       ∙ ap (behind_rows rows) below
       ∙ ap (λ l. (l, (fed r.1 b).1)) (sym (append_assoc rows r.0 (fed r.1 b).0))

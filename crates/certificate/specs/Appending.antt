@@ -1,5 +1,5 @@
 -- Texts that are appended.
-use Rattle.std.specs.Prelude.{ℕ, ◌≡◌, List, [], ◌∷◌, ◌++◌, Option, None, Some, Result, Ok, Err}
+use Rattle.std.specs.Prelude.{ℕ, ◌≡◌, List, [], ◌∷◌, ◌++◌, None, Some, Result, Ok, Err}
 use Rattle.certificate.specs.Line.{Line, budget, function, stretch, point, end}
 use Rattle.certificate.specs.Rows as rows
 use Rattle.certificate.specs.declared.cert.StretchRow.{StretchRow}

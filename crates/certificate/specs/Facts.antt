@@ -1,5 +1,5 @@
 -- That a certificate keeps the rules has one proof at most, so it may be a part of a type.
-use Rattle.std.specs.Prelude.{ℕ, ◌≡◌, ◌+◌, ◌≤◌, Bool, List, [], ◌∷◌, length, Option, Some, None, ℤ, pos, negsuc}
+use Rattle.std.specs.Prelude.{ℕ, ◌+◌, List, [], ◌∷◌, Option, Some, None, ℤ, pos, negsuc}
 use Rattle.std.specs.Coded.{Unit-prop, le_prop, ×_prop}
 use mathlib.Core.Bool.{Bool-set}
 use Rattle.certificate.specs.declared.cert.Span.{Span}
@@ -9,7 +9,7 @@ use Rattle.certificate.specs.declared.cert.Term.{Term}
 use Rattle.certificate.specs.declared.cert.Fact.{Fact}
 use Rattle.certificate.specs.declared.cert.StretchRow.{StretchRow}
 use Rattle.certificate.specs.Rows.{Flat, Function, Spent, Point, Certificate}
-use Rattle.certificate.specs.Grammar.{IsBase, IsSpan, AreSpans, IsSlot, rank, IsTerm, AreTerms, IsFact, AreFacts, IsSpent, IsPoint, IsFlat, IsFunction, IsStretch, AreFunctions, AreStretches, ArePoints, IsCertificate}
+use Rattle.certificate.specs.Grammar.{IsBase, IsSpan, AreSpans, IsSlot, rank, AreTerms, AreFacts, IsSpent, IsPoint, IsFlat, IsFunction, IsStretch, AreFunctions, AreStretches, ArePoints, IsCertificate}
 
 base_prop : (z : ℤ) → IsProp (IsBase z)
 base_prop (pos n) = le_prop

@@ -1,7 +1,6 @@
 -- Which row may follow which, and what is read of a text so far.
-use Rattle.std.specs.Prelude.{ℕ, ◌+◌, ◌<◌, ◌^◌, ◌==◌, ◌≡◌, Bool, true, false, List, [], ◌∷◌, ◌++◌, length, Option, Some, None, Result, Ok, Err, option_map, option_and_then, option_to_list, if◌then◌else◌, nat_le, codes}
+use Rattle.std.specs.Prelude.{ℕ, ◌+◌, ◌<◌, ◌^◌, ◌≡◌, List, [], ◌∷◌, ◌++◌, length, Option, Some, None, Result, Ok, Err, option_map, option_and_then, option_to_list, if◌then◌else◌, nat_le, codes}
 use Rattle.std.specs.Str.{bytes_eq}
-use Rattle.certificate.specs.declared.cert.StretchRow.{StretchRow}
 use Rattle.certificate.specs.declared.state.Row.{Row}
 use Rattle.certificate.specs.declared.state.Row.TheVariants.{Budget, Function, Stretch, Point, End}
 use Rattle.certificate.specs.declared.state.Stage.{Stage}

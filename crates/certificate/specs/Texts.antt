@@ -1,5 +1,5 @@
 -- Which texts spell certificates, and where another one has its first bad line.
-use Rattle.std.specs.Prelude.{ℕ, ◌≡◌, ◌⊎◌, Bool, false, ◌==◌, List, [], ◌∷◌, ◌++◌, length}
+use Rattle.std.specs.Prelude.{ℕ, ◌≡◌, ◌⊎◌, false, ◌==◌, List, [], ◌∷◌, ◌++◌, length}
 use Rattle.certificate.specs.declared.fault.CertText.{CertText}
 use Rattle.certificate.specs.declared.fault.CertText.TheVariants as fault
 use Rattle.certificate.specs.Rows.{Certificate}

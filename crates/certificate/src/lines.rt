@@ -12,7 +12,12 @@ use std::alloc::Global;
 use std::marker::Model;
 
 // Reads a line and adds its row, if it has one. Answers what may come next.
-fn take_line(alloc: Global, stage: Stage, line: &[u8], rows: &mut Vec<Row>) -> Result<Stage, Refusal>
+fn take_line(
+    alloc: Global,
+    stage: Stage,
+    line: &[u8],
+    rows: &mut Vec<Row>,
+) -> Result<Stage, Refusal>
     ensures { TakesLine result (map line_of_row rows.old.items) (map line_of_row rows.new.items) (read_line stage line.now) }
 {
     let (row, next) = read_line(alloc, stage, line)?;
@@ -34,7 +39,13 @@ struct Left<'a> {
 }
 
 // Adds the rows of the finished lines of a text that begins at this offset.
-fn take_lines<'a>(alloc: Global, stage: Stage, at: usize, text: &'a [u8], rows: &mut Vec<Row>) -> Result<Left<'a>, CertText>
+fn take_lines<'a>(
+    alloc: Global,
+    stage: Stage,
+    at: usize,
+    text: &'a [u8],
+    rows: &mut Vec<Row>,
+) -> Result<Left<'a>, CertText>
     requires { at + length text.now < 2 ^ 64 }
     ensures rows { GivesRows (λ left. going left.stage left.line.now left.at) result (map line_of_row rows.old.items) (map line_of_row rows.new.items) (read_text stage at text.now) }
     ensures one_line { IfOk result (λ left. Lacks 10 left.line.now) }

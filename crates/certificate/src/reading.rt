@@ -62,7 +62,7 @@ fn keep<T: Drop>(items: &mut Vec<T>, item: T) -> Result<(), CertText>
 fn put_row(parts: &mut Parts, row: Row) -> Result<(), CertText>
     ensures { MatchResult result
         (λ _. certificate_from parts.new.budget parts.new.functions.items parts.new.stretches.items parts.new.points.items
-            ≡ with_row (certificate_from parts.old.budget parts.old.functions.items parts.old.stretches.items parts.old.points.items) (line_of_row row))
+        ≡ with_row (certificate_from parts.old.budget parts.old.functions.items parts.old.stretches.items parts.old.points.items) (line_of_row row))
         (λ fault. fault ≡ CertText.Memory) }
 {
     match row {

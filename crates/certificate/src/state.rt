@@ -106,7 +106,9 @@ fn points_behind(stage: Stage, address: u16) -> Option<Stage>
 {
     let address = u32::from(address);
     match stage {
-        Stage::Functions { .. } | Stage::Stretches { .. } => Some(Stage::Points { low: address + 1 }),
+        Stage::Functions { .. } | Stage::Stretches { .. } => Some(Stage::Points {
+            low: address + 1,
+        }),
         Stage::Points { low } if low <= address => Some(Stage::Points { low: address + 1 }),
         _ => None,
     }

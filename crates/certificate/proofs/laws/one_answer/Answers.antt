@@ -1,6 +1,5 @@
-use Rattle.std.proofs.Common.{◌≡◌, ◌∙◌, sym, ap}
-use Rattle.certificate.specs.Reading.{fault_at_end}
-use Rattle.certificate.proofs.Marks.{none_not, some_is}
+use Rattle.std.proofs.Common.{◌∙◌, sym, ap}
+use Rattle.certificate.proofs.Marks.{some_is}
 use Rattle.certificate.proofs.Gathered.{one_certificate}
 use Rattle.certificate.proofs.Exact.{bad_only, holds_read, no_end}
 use Rattle.certificate.proofs.laws.one_answer.Goals as goal

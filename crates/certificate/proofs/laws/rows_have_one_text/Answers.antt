@@ -1,4 +1,4 @@
-use Rattle.std.proofs.Common.{◌≡◌, ◌∙◌, Some, ap}
+use Rattle.std.proofs.Common.{◌∙◌, ap}
 use Rattle.certificate.specs.Reading.{read_row}
 use Rattle.certificate.proofs.RowsTold.{row_back, row_told}
 use Rattle.certificate.proofs.laws.rows_have_one_text.Goals as goal

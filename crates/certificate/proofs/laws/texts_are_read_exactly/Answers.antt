@@ -1,4 +1,4 @@
-use Rattle.std.proofs.Common.{◌≡◌, sym, ap}
+use Rattle.std.proofs.Common.{ap}
 use Rattle.certificate.specs.Reading.{fault_at_end}
 use Rattle.certificate.proofs.Exact.{bad_only, bad_told, fault_held, holds_read}
 use Rattle.certificate.proofs.laws.texts_are_read_exactly.Goals as goal

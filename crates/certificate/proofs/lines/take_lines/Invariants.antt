@@ -1,4 +1,4 @@
-use Rattle.std.proofs.Common.{◌≡◌, ◌≤◌, ◌+◌, ◌++◌, length, map, List}
+use Rattle.std.proofs.Common.{◌≡◌, ◌+◌, ◌++◌, length, map}
 use Rattle.certificate.specs.Reading.{line_of_row, read_text}
 use Rattle.certificate.proofs.lines.take_lines.Given as goal
 
