@@ -57,4 +57,4 @@ pub room_left : {R : Type 0} (rows : R → List Line) (r : Result R CertText) (o
     → HasRoom old (length piece + more) → HasRoom new more
 room_left rows (Ok given) old new piece more f h = subst (λ p. HasRoom p more) f.1 (room_fed old piece more h)
 room_left rows (Err (fault.BadLine at)) old new piece more f h = subst (λ p. HasRoom p more) (sym f.1) tt
-room_left rows (Err fault.Memory) old new piece more f h = subst (λ p. HasRoom p more) (sym f) (less_room old (length piece) more h)
+room_left rows (Err fault.Memory) old new piece more f h = subst (λ p. HasRoom p more) (sym f.0) (less_room old (length piece) more h)

@@ -154,11 +154,11 @@ IsGoing (going s line at) = Unit {0}
 IsGoing (stopped at) = ⊥
 
 -- The rows of the piece were given; or the first bad line begins there, now and ever; or there was no memory, and
--- nothing has changed.
+-- nothing has changed; a reader that has met a bad line takes no memory.
 abbrev pub Feeds : {R : Type 0} → (R → List Line) → Result R CertText → Progress → Progress → (List Line × Progress) → Type 0
 Feeds rows (Ok given) old new wanted = (rows given ≡ wanted.0) × (wanted.1 ≡ new) × IsGoing new
 Feeds rows (Err (fault.BadLine at)) old new wanted = (wanted.1 ≡ stopped at) × (new ≡ stopped at)
-Feeds rows (Err fault.Memory) old new wanted = new ≡ old
+Feeds rows (Err fault.Memory) old new wanted = (new ≡ old) × IsGoing old
 
 -- where a text that ends here has its first bad line, if it is no whole certificate
 abbrev pub fault_at_end : Progress → Option ℕ
