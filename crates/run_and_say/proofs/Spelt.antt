@@ -8,7 +8,9 @@ use Rattle.ti_txt.specs.Image.{Ascend, Block, IsImage, end_of}
 use Rattle.ti_txt.specs.Spelling.{AllFit, Fit, text_of}
 use Rattle.ti_txt.proofs.Again.{holds_again}
 use Rattle.ti_txt.proofs.Loading.{holds_one}
-use Rattle.msp430_machine.specs.Addresses.{Code, Fram, Region, region}
+use Rattle.msp430_machine.specs.Addresses.{region}
+use Rattle.msp430_machine.specs.declared.addresses.Region.{Region}
+use Rattle.msp430_machine.specs.declared.addresses.Region.TheVariants.{Code, Fram}
 use Rattle.msp430_machine.specs.First.{HoldsBlocks, HoldsBytes, IsFirst}
 use Rattle.msp430_machine.specs.Memory.{byte_at, half, word_at, word_in}
 use Rattle.msp430_machine.specs.State.{State}
