@@ -1,0 +1,23 @@
+-- What is known of the tokens of a text: a name isn't spelled as a bracket, and a number is a word.
+use Rattle.std.specs.Prelude.{◌≡◌, ℕ, List, ◌^◌, true, false, codes, nat_lt}
+use Rattle.std.specs.Str.{bytes_eq}
+use Rattle.base_io.specs.declared.place.Place.{Place}
+use Rattle.c_lex.specs.declared.token.TokenKind.{TokenKind}
+use Rattle.c_lex.specs.declared.token.TokenKind.TheVariants as token
+use Rattle.c_parse.specs.declared.raw.Raw.TheVariants.{Leaf}
+use Rattle.c_parse.specs.Classes.{class_of}
+use Rattle.c_parse.specs.Words.{Word}
+
+abbrev pub IsPlausible : TokenKind → List ℕ → Type 0
+IsPlausible token.Name text = bytes_eq text (codes "(") ≡ false
+IsPlausible (token.Number n unsigned) text = nat_lt n (2 ^ 16) ≡ true
+IsPlausible _ text = Unit {0}
+
+-- a token of its class, as the tokens of each text are
+pub record IsWord (word : Word) : Type 0 where
+  pub kind : TokenKind
+  pub bytes : List ℕ
+  pub place : Place
+  pub leaf : word.leaf ≡ Leaf kind bytes place
+  pub class : word.class ≡ class_of kind bytes
+  pub plausible : IsPlausible kind bytes
