@@ -2,7 +2,6 @@
 use Rattle.std.proofs.Common.{◌≡◌, ◌≤◌, ◌<◌, ◌+◌, ◌-◌, ◌%◌, ◌/◌, ℕ, Bool, true, false, List, [], ◌∷◌, length, sym, subst, ⊎_elim, arith}
 use Rattle.std.specs.Prelude.{if◌then◌else◌, ◌==◌}
 use Rattle.std.proofs.lemmas.Bool.{cases_lt}
-use Rattle.std.proofs.lemmas.Bool.Decides.{nat_tests}
 use Rattle.ti_txt.specs.Grammar.{Holds}
 use Rattle.ti_txt.specs.Image.{Ascend, Block, IsImage, end_of}
 use Rattle.ti_txt.specs.Spelling.{AllFit, Fit, text_of}
@@ -14,6 +13,7 @@ use Rattle.msp430_machine.specs.declared.addresses.Region.TheVariants.{Code, Fra
 use Rattle.msp430_machine.specs.First.{HoldsBlocks, HoldsBytes, IsFirst}
 use Rattle.msp430_machine.specs.Memory.{byte_at, half, word_at, word_in}
 use Rattle.msp430_machine.specs.State.{State}
+use Rattle.msp430_machine.proofs.Memories.{in_code, in_fram, in_info}
 
 half_small : (a w : ℕ) → w < 65536 → half a w < 256
 half_small a w h = by (a % 2 == 0)
@@ -22,15 +22,6 @@ half_small a w h = by (a % 2 == 0)
     by true = omega arith
     by false = omega (arith, h)
 
-is_fram : (a : ℕ) → 0x1800 ≤ a → a < 0x1A00 → region a ≡ Fram
-is_fram a low high = grind (arith, nat_tests)
-
-is_main_fram : (a : ℕ) → 0x4400 ≤ a → a < 0x8000 → region a ≡ Fram
-is_main_fram a low high = grind (arith, nat_tests)
-
-is_code : (a : ℕ) → 0x8000 ≤ a → region a ≡ Code
-is_code a low = grind (arith, nat_tests)
-
 by_region : (s : State) (a : ℕ) (r : Region) → region a ≡ r → word_in r s a < 65536 → byte_at s a < 256
 by_region s a r e h = half_small a (word_at s a) (subst (λ x. word_in x s a < 65536) (sym e) h)
 
@@ -38,10 +29,10 @@ by_region s a r e h = half_small a (word_at s a) (subst (λ x. word_in x s a < 6
 byte_small : (s : State) (a : ℕ) → IsFirst s → 0x1800 ≤ a → a < 0x10000 → (a < 0x4400 → a < 0x1A00) → byte_at s a < 256
 byte_small s a first low top gap =
     ⊎_elim
-    (λ under. by_region s a Fram (is_fram a low (gap under)) (first.fram (a / 2) (omega (arith, under))))
+    (λ under. by_region s a Fram (in_info a low (gap under)) (first.fram (a / 2) (omega (arith, under))))
     (λ above. ⊎_elim
-    (λ under. by_region s a Fram (is_main_fram a above under) (first.fram (a / 2) (omega (arith, under))))
-    (λ code. by_region s a Code (is_code a code) (first.code ((a - 0x8000) / 2) (omega (arith, code, top))))
+    (λ under. by_region s a Fram (in_fram a above under) (first.fram (a / 2) (omega (arith, under))))
+    (λ code. by_region s a Code (in_code a code) (first.code ((a - 0x8000) / 2) (omega (arith, code, top))))
     (cases_lt a 0x8000))
     (cases_lt a 0x4400)
 
