@@ -1,17 +1,17 @@
--- The levels through which an expression is looked at as a constant.
-use Rattle.std.proofs.Common.{◌≡◌, refl, sym, ap, subst, ◌∙◌, ℕ, zero, suc, ◌+◌, ◌≤◌, ◌%◌, ◌^◌, Option, Some, None, arith, true, false, Bool, ◌&&◌}
+-- The levels through which an expression is looked at as a constant, where it is taken apart into its first operand and the rest.
+use Rattle.std.proofs.Common.{◌≡◌, refl, sym, ap, subst, ◌∙◌, ℕ, zero, suc, ◌+◌, ◌≤◌, Option, Some, None, List, [], ◌∷◌, arith, true, false, Bool, ◌&&◌}
 use Rattle.std.specs.Option.{option_map, option_and_then}
 use Rattle.c_values.specs.declared.ops.Ty.{Ty}
 use Rattle.c_values.specs.declared.ops.UnaryOp.{UnaryOp}
 use Rattle.c_values.specs.declared.ops.BinaryOp.{BinaryOp}
-use Rattle.c_values.specs.Values.{converted, unary_of}
 use Rattle.c_tree.specs.Layer.{ExprLayer}
 use Rattle.c_tree.specs.declared.tree.Expr.{Expr, size-Expr, size_is-Expr}
 use Rattle.c_tree.specs.declared.tree.ExprKind.{out-ExprKind, ExprKind, size-ExprKind, size_is-ExprKind, roll-out-ExprKind, roll-ExprKind}
 use Rattle.c_tree.specs.declared.tree.ExprKind.TheOpen.{ExprKind-F}
 use Rattle.c_tree.specs.declared.tree.ExprKind.TheVariants as kind
-use Rattle.c_tree.specs.declared.tree.ExprKind.TheVariants.{outs-Convert, outs-Unary, outs-Binary, outs-Number, rolls-Convert, rolls-Unary, rolls-Binary, rolls-Number}
+use Rattle.c_tree.specs.declared.tree.ExprKind.TheVariants.{outs-Convert, outs-Unary, outs-Binary, rolls-Convert, rolls-Unary, rolls-Binary}
 use Rattle.c_typing.specs.Constants.{is_made, is_made_by, word_to, word_by, second_word}
+use Rattle.c_expressions.specs.Operands.{first_of, is_made_besides, leaf_word, rest_of, IsWordOf, IsWithin, right, rights}
 
 -- ---- parts have fewer levels
 
@@ -24,28 +24,48 @@ unary_below op a = omega (arith, rw (outs-Unary op a) at (size_is-ExprKind (kind
 left_below : (op : BinaryOp) (a b : Expr) → size-Expr a + 1 ≤ size-ExprKind (kind.Binary op a b)
 left_below op a b = omega (arith, rw (outs-Binary op a b) at (size_is-ExprKind (kind.Binary op a b)))
 
-right_below : (op : BinaryOp) (a b : Expr) → size-Expr b + 1 ≤ size-ExprKind (kind.Binary op a b)
-right_below op a b = omega (arith, rw (outs-Binary op a b) at (size_is-ExprKind (kind.Binary op a b)))
+second_levels : (op : BinaryOp) (a b : Expr) → size-Expr b + 1 ≤ size-ExprKind (kind.Binary op a b)
+second_levels op a b = omega (arith, rw (outs-Binary op a b) at (size_is-ExprKind (kind.Binary op a b)))
 
 none_below : (e : Expr) → size-Expr e ≤ 0 → ⊥
 none_below e le = omega (arith, le, size_is-Expr e)
 
-kind_below : (e : Expr) (k : ExprKind) (m n : ℕ) → e.kind ≡ k → m + 1 ≤ size-ExprKind k → size-Expr e ≤ suc n → m ≤ n
-kind_below e k m n h lt le = omega (arith, lt, le, size_is-Expr e, ap size-ExprKind h)
-
--- the second operand of a binary operator is a part of an expression
-pub second_below : (e a b : Expr) (op : BinaryOp) → e.kind ≡ kind.Binary op a b → size-Expr b + 1 ≤ size-Expr e
-second_below e a b op h = omega (arith, right_below op a b, size_is-Expr e, ap size-ExprKind h)
-
 is_rolled : (k : ExprKind) (x : ExprLayer) → out-ExprKind k ≡ x → k ≡ roll-ExprKind x
 is_rolled k x h = sym (roll-out-ExprKind k) ∙ ap roll-ExprKind h
 
--- an expression is none of those that constants are made of
-pub record IsOther (k : ExprKind) : Type 0 where
-  pub number : (w : ℕ) → k ≡ kind.Number w → ⊥
-  pub convert : (a : Expr) → k ≡ kind.Convert a → ⊥
-  pub unary : (op : UnaryOp) (a : Expr) → k ≡ kind.Unary op a → ⊥
-  pub binary : (op : BinaryOp) (a b : Expr) → k ≡ kind.Binary op a b → ⊥
+below_by : (k : ExprKind) (x : ExprLayer) (a : Expr) → out-ExprKind k ≡ x → first_of x ≡ Some a → size-Expr a + 1 ≤ size-ExprKind k
+below_by k (ExprKind-F.Number w) a h f = cc
+below_by k (ExprKind-F.Var v) a h f = cc
+below_by k (ExprKind-F.Element v i) a h f = cc
+below_by k (ExprKind-F.Convert e) a h f =
+    let q : e ≡ a = cc in
+    omega (arith, convert_below e, ap size-ExprKind (is_rolled k (ExprKind-F.Convert e) h ∙ rolls-Convert e), ap size-Expr q)
+below_by k (ExprKind-F.Unary op e) a h f =
+    let q : e ≡ a = cc in
+    omega (arith, unary_below op e, ap size-ExprKind (is_rolled k (ExprKind-F.Unary op e) h ∙ rolls-Unary op e), ap size-Expr q)
+below_by k (ExprKind-F.Binary op e b) a h f =
+    let q : e ≡ a = cc in
+    omega (arith, left_below op e b, ap size-ExprKind (is_rolled k (ExprKind-F.Binary op e b) h ∙ rolls-Binary op e b), ap size-Expr q)
+below_by k (ExprKind-F.Cond c y n) a h f = cc
+below_by k (ExprKind-F.Call g args) a h f = cc
+below_by k ExprKind-F.Input a h f = cc
+below_by k (ExprKind-F.Output e) a h f = cc
+
+pub first_below : (e a : Expr) → first_of (out-ExprKind e.kind) ≡ Some a → size-Expr a + 1 ≤ size-Expr e
+first_below e a f = omega (arith, below_by e.kind (out-ExprKind e.kind) a refl f, size_is-Expr e)
+
+right_below_by : (k : ExprKind) (x : ExprLayer) → out-ExprKind k ≡ x → right x ≤ size-ExprKind k
+right_below_by k (ExprKind-F.Binary op a b) h = omega (arith, second_levels op a b, ap size-ExprKind (is_rolled k (ExprKind-F.Binary op a b) h ∙ rolls-Binary op a b))
+right_below_by k _ h = omega arith
+
+pub right_below : (e : Expr) → right (out-ExprKind e.kind) + 1 ≤ size-Expr e
+right_below e = omega (arith, right_below_by e.kind (out-ExprKind e.kind) refl, size_is-Expr e)
+
+pub rights_kept : (ks new : List Expr) (k e : Expr) → new ≡ k ∷ ks → size-Expr k ≤ size-Expr e → rights ks + 1 ≤ size-Expr e → rights new + 1 ≤ size-Expr e
+rights_kept ks new k e q le h = omega (arith, ap rights q, right_below k, le, h)
+
+pub rights_next : (ks new : List Expr) (k : Expr) → ks ≡ k ∷ new → rights new ≤ rights ks
+rights_next ks new k q = omega (arith, ap rights q)
 
 -- ---- what an expression is made of
 
@@ -53,96 +73,120 @@ pub record IsOther (k : ExprKind) : Type 0 where
 abbrev pub Made : Expr → Bool → Type 0
 Made e r = (n : ℕ) → size-Expr e ≤ n → r ≡ is_made n e
 
-pub made_number : (e : Expr) (w : ℕ) → e.kind ≡ kind.Number w → Made e true
-unfolding is_made
-made_number e w h zero le = absurd (none_below e le)
-made_number e w h (suc n) le = ap (is_made_by (is_made n)) (sym (outs-Number w) ∙ sym (ap out-ExprKind h))
+-- but for its first operand it is so
+abbrev pub MadeBesides : Expr → Bool → Type 0
+MadeBesides e r = (n : ℕ) → size-Expr e ≤ suc n → r ≡ is_made_besides (is_made n) (out-ExprKind e.kind)
 
-pub made_convert : (e a : Expr) (r : Bool) → e.kind ≡ kind.Convert a → Made a r → Made e r
-unfolding is_made
-made_convert e a r h f zero le = absurd (none_below e le)
-made_convert e a r h f (suc n) le = f n (kind_below e (kind.Convert a) (size-Expr a) n h (convert_below a) le) ∙ ap (is_made_by (is_made n)) (sym (outs-Convert a) ∙ sym (ap out-ExprKind h))
+and_false : (b : Bool) → (b && false) ≡ false
+and_false true = refl
+and_false false = refl
 
-pub made_unary : (e a : Expr) (op : UnaryOp) (r : Bool) → e.kind ≡ kind.Unary op a → Made a r → Made e r
-unfolding is_made
-made_unary e a op r h f zero le = absurd (none_below e le)
-made_unary e a op r h f (suc n) le = f n (kind_below e (kind.Unary op a) (size-Expr a) n h (unary_below op a) le) ∙ ap (is_made_by (is_made n)) (sym (outs-Unary op a) ∙ sym (ap out-ExprKind h))
+and_true : (b : Bool) → (b && true) ≡ b
+and_true true = refl
+and_true false = refl
 
--- both operands are made so
-pub made_binary : (e a b : Expr) (op : BinaryOp) (r : Bool) → e.kind ≡ kind.Binary op a b → Made a true → Made b r → Made e r
-unfolding is_made
-made_binary e a b op r h f g zero le = absurd (none_below e le)
-made_binary e a b op r h f g (suc n) le =
-    g n (kind_below e (kind.Binary op a b) (size-Expr b) n h (right_below op a b) le)
-    ∙ (ap (λ t. t && is_made n b) (f n (kind_below e (kind.Binary op a b) (size-Expr a) n h (left_below op a b) le)) ∙ ap (is_made_by (is_made n)) (sym (outs-Binary op a b) ∙ sym (ap out-ExprKind h)))
+unmade_by : (f : Expr → Bool) (x : ExprLayer) → false ≡ is_made_besides f x → false ≡ is_made_by f x
+unmade_by f (ExprKind-F.Number w) h = cc
+unmade_by f (ExprKind-F.Convert e) h = cc
+unmade_by f (ExprKind-F.Unary op a) h = cc
+unmade_by f (ExprKind-F.Binary op a b) h = sym (ap (λ t. f a && t) (sym h) ∙ and_false (f a))
+unmade_by f _ h = refl
 
-pub unmade_binary : (e a b : Expr) (op : BinaryOp) → e.kind ≡ kind.Binary op a b → Made a false → Made e false
-unfolding is_made
-unmade_binary e a b op h f zero le = absurd (none_below e le)
-unmade_binary e a b op h f (suc n) le =
-    ap (λ t. t && is_made n b) (f n (kind_below e (kind.Binary op a b) (size-Expr a) n h (left_below op a b) le)) ∙ ap (is_made_by (is_made n)) (sym (outs-Binary op a b) ∙ sym (ap out-ExprKind h))
+made_by : (f : Expr → Bool) (x : ExprLayer) (a : Expr) → first_of x ≡ Some a → true ≡ is_made_besides f x → f a ≡ is_made_by f x
+made_by f (ExprKind-F.Number w) a q h = cc
+made_by f (ExprKind-F.Var v) a q h = cc
+made_by f (ExprKind-F.Element v i) a q h = cc
+made_by f (ExprKind-F.Convert e) a q h = let p : e ≡ a = cc in rw (← p) refl
+made_by f (ExprKind-F.Unary op e) a q h = let p : e ≡ a = cc in rw (← p) refl
+made_by f (ExprKind-F.Binary op e b) a q h = let p : e ≡ a = cc in rw (← p) (sym (ap (λ t. f e && t) (sym h) ∙ and_true (f e)))
+made_by f (ExprKind-F.Cond c y n) a q h = cc
+made_by f (ExprKind-F.Call g args) a q h = cc
+made_by f ExprKind-F.Input a q h = cc
+made_by f (ExprKind-F.Output e) a q h = cc
 
-unmade_by : (f : Expr → Bool) (k : ExprKind) (x : ExprLayer) → out-ExprKind k ≡ x → IsOther k → false ≡ is_made_by f x
-unmade_by f k (ExprKind-F.Number w) h o = absurd (o.number w (is_rolled k (ExprKind-F.Number w) h ∙ rolls-Number w))
-unmade_by f k (ExprKind-F.Convert a) h o = absurd (o.convert a (is_rolled k (ExprKind-F.Convert a) h ∙ rolls-Convert a))
-unmade_by f k (ExprKind-F.Unary op a) h o = absurd (o.unary op a (is_rolled k (ExprKind-F.Unary op a) h ∙ rolls-Unary op a))
-unmade_by f k (ExprKind-F.Binary op a b) h o = absurd (o.binary op a b (is_rolled k (ExprKind-F.Binary op a b) h ∙ rolls-Binary op a b))
-unmade_by f k _ h o = refl
+leaf_made_by : (f : Expr → Bool) (x : ExprLayer) → first_of x ≡ None → is_made_besides f x ≡ is_made_by f x
+leaf_made_by f (ExprKind-F.Number w) h = refl
+leaf_made_by f (ExprKind-F.Var v) h = refl
+leaf_made_by f (ExprKind-F.Element v i) h = refl
+leaf_made_by f (ExprKind-F.Convert e) h = cc
+leaf_made_by f (ExprKind-F.Unary op e) h = cc
+leaf_made_by f (ExprKind-F.Binary op e b) h = cc
+leaf_made_by f (ExprKind-F.Cond c y n) h = refl
+leaf_made_by f (ExprKind-F.Call g args) h = refl
+leaf_made_by f ExprKind-F.Input h = refl
+leaf_made_by f (ExprKind-F.Output e) h = refl
 
-pub unmade : (e : Expr) → IsOther e.kind → Made e false
+pub unmade : (e : Expr) → MadeBesides e false → Made e false
 unfolding is_made
-unmade e o zero le = absurd (none_below e le)
-unmade e o (suc n) le = unmade_by (is_made n) e.kind (out-ExprKind e.kind) refl o
+unmade e h zero le = absurd (none_below e le)
+unmade e h (suc n) le = unmade_by (is_made n) (out-ExprKind e.kind) (h n le)
+
+pub made_first : (e a : Expr) (r : Bool) → first_of (out-ExprKind e.kind) ≡ Some a → MadeBesides e true → Made a r → Made e r
+unfolding is_made
+made_first e a r q h f zero le = absurd (none_below e le)
+made_first e a r q h f (suc n) le = f n (omega (arith, first_below e a q, le)) ∙ made_by (is_made n) (out-ExprKind e.kind) a q (h n le)
+
+pub made_leaf : (e : Expr) (r : Bool) → first_of (out-ExprKind e.kind) ≡ None → MadeBesides e r → Made e r
+unfolding is_made
+made_leaf e r q h zero le = absurd (none_below e le)
+made_leaf e r q h (suc n) le = h n le ∙ leaf_made_by (is_made n) (out-ExprKind e.kind) q
 
 -- ---- its word
 
--- its word, through each number of levels that reaches its leaves
-abbrev pub Worded : Expr → Option ℕ → Type 0
-Worded e r = (n : ℕ) → size-Expr e ≤ n → r ≡ word_to n e
+parted : (f : Expr → Option ℕ) (ty : Ty) (x : ExprLayer) (a : Expr) (o : Option ℕ) → first_of x ≡ Some a → o ≡ f a → option_and_then (rest_of f ty x) o ≡ word_by f ty x
+parted f ty (ExprKind-F.Number w) a o q h = cc
+parted f ty (ExprKind-F.Var v) a o q h = cc
+parted f ty (ExprKind-F.Element v i) a o q h = cc
+parted f ty (ExprKind-F.Convert e) a None q h = let p : f e ≡ None = cc in rw p refl
+parted f ty (ExprKind-F.Convert e) a (Some y) q h = let p : f e ≡ Some y = cc in rw p refl
+parted f ty (ExprKind-F.Unary op e) a None q h = let p : f e ≡ None = cc in rw p refl
+parted f ty (ExprKind-F.Unary op e) a (Some y) q h = let p : f e ≡ Some y = cc in rw p refl
+parted f ty (ExprKind-F.Binary op e b) a None q h = let p : f e ≡ None = cc in rw p refl
+parted f ty (ExprKind-F.Binary op e b) a (Some y) q h = let i : e ≡ a = cc in let p : f e ≡ Some y = ap f i ∙ sym h in sym (ap (option_and_then (second_word f op e b)) p)
+parted f ty (ExprKind-F.Cond c y n) a o q h = cc
+parted f ty (ExprKind-F.Call g args) a o q h = cc
+parted f ty ExprKind-F.Input a o q h = cc
+parted f ty (ExprKind-F.Output e) a o q h = cc
 
-pub word_number : (e : Expr) (w : ℕ) → e.kind ≡ kind.Number w → Worded e (Some (w % 2 ^ 16))
+leafed : (f : Expr → Option ℕ) (ty : Ty) (x : ExprLayer) → first_of x ≡ None → leaf_word x ≡ word_by f ty x
+leafed f ty (ExprKind-F.Number w) h = refl
+leafed f ty (ExprKind-F.Var v) h = refl
+leafed f ty (ExprKind-F.Element v i) h = refl
+leafed f ty (ExprKind-F.Convert e) h = cc
+leafed f ty (ExprKind-F.Unary op e) h = cc
+leafed f ty (ExprKind-F.Binary op e b) h = cc
+leafed f ty (ExprKind-F.Cond c y n) h = refl
+leafed f ty (ExprKind-F.Call g args) h = refl
+leafed f ty ExprKind-F.Input h = refl
+leafed f ty (ExprKind-F.Output e) h = refl
+
+pub word_first : (e a : Expr) (word w : Option ℕ) → first_of (out-ExprKind e.kind) ≡ Some a → IsWordOf word a
+    → ((n : ℕ) → size-Expr e ≤ suc n → w ≡ option_and_then (rest_of (word_to n) e.ty (out-ExprKind e.kind)) word) → IsWordOf w e
 unfolding word_to
-word_number e w h zero le = absurd (none_below e le)
-word_number e w h (suc n) le = ap (word_by (word_to n) e.ty) (sym (outs-Number w) ∙ sym (ap out-ExprKind h))
+word_first e a word w q f h zero le = absurd (none_below e le)
+word_first e a word w q f h (suc n) le = h n le ∙ parted (word_to n) e.ty (out-ExprKind e.kind) a word q (f n (omega (arith, first_below e a q, le)))
 
-pub word_convert : (e a : Expr) (r : Option ℕ) → e.kind ≡ kind.Convert a → Worded a r → Worded e (option_map (converted e.ty a.ty) r)
+pub word_leaf : (e : Expr) → first_of (out-ExprKind e.kind) ≡ None → IsWordOf (leaf_word (out-ExprKind e.kind)) e
 unfolding word_to
-word_convert e a r h f zero le = absurd (none_below e le)
-word_convert e a r h f (suc n) le =
-    ap (option_map (converted e.ty a.ty)) (f n (kind_below e (kind.Convert a) (size-Expr a) n h (convert_below a) le))
-    ∙ ap (word_by (word_to n) e.ty) (sym (outs-Convert a) ∙ sym (ap out-ExprKind h))
+word_leaf e q zero le = absurd (none_below e le)
+word_leaf e q (suc n) le = leafed (word_to n) e.ty (out-ExprKind e.kind) q
 
-pub word_unary : (e a : Expr) (op : UnaryOp) (r : Option ℕ) → e.kind ≡ kind.Unary op a → Worded a r → Worded e (option_map (unary_of a.ty op) r)
-unfolding word_to
-word_unary e a op r h f zero le = absurd (none_below e le)
-word_unary e a op r h f (suc n) le =
-    ap (option_map (unary_of a.ty op)) (f n (kind_below e (kind.Unary op a) (size-Expr a) n h (unary_below op a) le))
-    ∙ ap (word_by (word_to n) e.ty) (sym (outs-Unary op a) ∙ sym (ap out-ExprKind h))
+-- ---- loops down to the innermost first operand, and back
 
-pub word_binary : (e a b : Expr) (op : BinaryOp) (x : ℕ) (r : Option ℕ) → e.kind ≡ kind.Binary op a b → Worded a (Some x)
-    → ((n : ℕ) → size-Expr b ≤ n → r ≡ second_word (word_to n) op a b x) → Worded e r
-unfolding word_to
-word_binary e a b op x r h f g zero le = absurd (none_below e le)
-word_binary e a b op x r h f g (suc n) le =
-    g n (kind_below e (kind.Binary op a b) (size-Expr b) n h (right_below op a b) le)
-    ∙ (ap (option_and_then (second_word (word_to n) op a b)) (f n (kind_below e (kind.Binary op a b) (size-Expr a) n h (left_below op a b) le))
-    ∙ ap (word_by (word_to n) e.ty) (sym (outs-Binary op a b) ∙ sym (ap out-ExprKind h)))
+-- some expression has this word, and lies within e as these say
+abbrev pub Reaches : List Expr → Option ℕ → Expr → Type 0
+Reaches ks word e = (at : Expr) × IsWithin ks at e × IsWordOf word at
 
-pub wordless_binary : (e a b : Expr) (op : BinaryOp) → e.kind ≡ kind.Binary op a b → Worded a None → Worded e None
-unfolding word_to
-wordless_binary e a b op h f zero le = absurd (none_below e le)
-wordless_binary e a b op h f (suc n) le =
-    ap (option_and_then (second_word (word_to n) op a b)) (f n (kind_below e (kind.Binary op a b) (size-Expr a) n h (left_below op a b) le))
-    ∙ ap (word_by (word_to n) e.ty) (sym (outs-Binary op a b) ∙ sym (ap out-ExprKind h))
+pub within_next : (ks new : List Expr) (k a e : Expr) → new ≡ k ∷ ks → first_of (out-ExprKind k.kind) ≡ Some a → IsWithin ks k e → IsWithin new a e
+within_next ks new k a e q f h = subst (λ l. IsWithin l a e) (sym q) (f, h)
 
-wordless_by : (f : Expr → Option ℕ) (ty : Ty) (k : ExprKind) (x : ExprLayer) → out-ExprKind k ≡ x → IsOther k → None ≡ word_by f ty x
-wordless_by f ty k (ExprKind-F.Number w) h o = absurd (o.number w (is_rolled k (ExprKind-F.Number w) h ∙ rolls-Number w))
-wordless_by f ty k (ExprKind-F.Convert a) h o = absurd (o.convert a (is_rolled k (ExprKind-F.Convert a) h ∙ rolls-Convert a))
-wordless_by f ty k (ExprKind-F.Unary op a) h o = absurd (o.unary op a (is_rolled k (ExprKind-F.Unary op a) h ∙ rolls-Unary op a))
-wordless_by f ty k (ExprKind-F.Binary op a b) h o = absurd (o.binary op a b (is_rolled k (ExprKind-F.Binary op a b) h ∙ rolls-Binary op a b))
-wordless_by f ty k _ h o = refl
+pub reaches_next : (ks new : List Expr) (k e : Expr) (word w : Option ℕ) → ks ≡ k ∷ new
+    → ((n : ℕ) → size-Expr k ≤ suc n → w ≡ option_and_then (rest_of (word_to n) k.ty (out-ExprKind k.kind)) word) → Reaches ks word e → Reaches new w e
+reaches_next ks new k e word w q h r =
+    let within : IsWithin (k ∷ new) r.0 e = subst (λ l. IsWithin l r.0 e) q r.1 in
+    (k, within.1, word_first k r.0 word w within.0 r.2 h)
 
-pub wordless : (e : Expr) → IsOther e.kind → Worded e None
-unfolding word_to
-wordless e o zero le = absurd (none_below e le)
-wordless e o (suc n) le = wordless_by (word_to n) e.ty e.kind (out-ExprKind e.kind) refl o
+pub reaches_end : (ks : List Expr) (e : Expr) (word : Option ℕ) → ks ≡ [] → Reaches ks word e → IsWordOf word e
+reaches_end ks e word q r =
+    let within : IsWithin [] r.0 e = subst (λ l. IsWithin l r.0 e) q r.1 in
+    subst (IsWordOf word) within r.2

@@ -1,2 +1,3 @@
 pub mod ConstantLevels
 pub mod Ends
+pub mod Operations

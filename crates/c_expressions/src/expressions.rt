@@ -1,15 +1,18 @@
 //! Expressions.
-ghost use Rattle.std.specs.Prelude.{◌≡◌, ◌∷◌, [], map};
+ghost use Rattle.std.specs.Prelude.{◌≡◌, ◌∷◌, [], map, reverse, MatchOption, OnOk};
 ghost use Rattle.c_typing.specs.Parts.{Makes};
 ghost use Rattle.c_typing.specs.Judged.{spells, is_token};
 ghost use Rattle.c_typing.specs.Programs.{judged};
 ghost use Rattle.c_typing.specs.Expressions as spec;
+ghost use Rattle.c_expressions.specs.Operations.{operated, rests_of};
 
 use crate::calls::{begin_call, call_made, passed};
 use crate::names::{meaning_at, parameter_type};
 use crate::notes::{boxed, push};
 use crate::operators::{binary_op, unary_op};
-use crate::trees::{Fronted, NO_PLACE, front, kind, place, spells, text, type_of};
+use crate::trees::{
+    Fronted, NO_PLACE, Operation, front, kind, operation_of, place, spells, text, type_of,
+};
 use crate::values::{
     absent, binary_made, cast_made, choice_made, faulty, unary_made, used, valued,
 };
@@ -121,7 +124,7 @@ fn binary(alloc: Global, parts: &[Raw], state: &mut State) -> Result<Value, NoMe
         Fronted::One(part) => expr(alloc, part, state),
         Fronted::More(a, operator, rest) => match front(rest) {
             Fronted::One(b) => {
-                let a = value_of(alloc, a, state)?;
+                let a = left(alloc, a, state)?;
                 second_operand(
                     alloc,
                     place(operator),
@@ -135,6 +138,78 @@ fn binary(alloc: Global, parts: &[Raw], state: &mut State) -> Result<Value, NoMe
         },
         Fronted::Empty => Ok(absent(NO_PLACE)),
     }
+}
+
+/// The value of a left operand. The left operands within it may lie some 1,000 deep in each other: a loop goes down to the innermost, and
+/// another one back.
+#[cycle(walk)]
+fn left(alloc: Global, raw: &Raw, state: &mut State) -> Result<Expr, NoMemory>
+    ensures { Makes (spec.value_of (judged raw.now)) state.old result state.new }
+{
+    let mut above = Vec::new(alloc);
+    let mut at = raw;
+    while let Some(operation) = operation_of(at) {
+        keep(&mut above, operation)?;
+        at = operation.left;
+    }
+    let value = value_of(alloc, at, state)?;
+    rests(alloc, above, value, state)
+}
+
+/// An operation goes before the others.
+fn keep<'a>(above: &mut Vec<Operation<'a>>, operation: Operation<'a>) -> Result<(), NoMemory>
+    ensures { OnOk result (reverse above.new.items ≡ operation.entry ∷ reverse above.old.items) }
+{
+    match above.push(operation) {
+        Ok(_) => Ok(()),
+        Err(_) => Err(NoMemory),
+    }
+}
+
+/// Takes the operation that was kept last.
+fn last_kept<'a>(above: &mut Vec<Operation<'a>>) -> Option<Operation<'a>>
+    ensures { MatchOption result (reverse above.old.items ≡ []) (λ o. reverse above.old.items ≡ o ∷ reverse above.new.items) }
+{
+    above.pop()
+}
+
+/// The value of the last of these operations, from that of the first one's left operand on. Each is the left operand of the next.
+#[cycle(walk)]
+fn rests(
+    alloc: Global,
+    above: Vec<Operation<'_>>,
+    value: Expr,
+    state: &mut State,
+) -> Result<Expr, NoMemory>
+    ensures { Makes (rests_of (reverse above.entry.items) value) state.old result state.new }
+{
+    let mut above = above;
+    let mut value = value;
+    while let Some(operation) = last_kept(&mut above) {
+        value = operated(alloc, operation, value, state)?;
+    }
+    Ok(value)
+}
+
+/// The value of an operation, from that of its left operand on.
+#[cycle(walk)]
+fn operated(
+    alloc: Global,
+    operation: Operation<'_>,
+    a: Expr,
+    state: &mut State,
+) -> Result<Expr, NoMemory>
+    ensures { Makes (operated operation.entry a) state.old result state.new }
+{
+    let value = second_operand(
+        alloc,
+        place(operation.operator),
+        binary_op(text(operation.operator)),
+        operation.right,
+        a,
+        state,
+    )?;
+    used(value, state)
 }
 
 /// The operand behind an operator.

@@ -1,5 +1,5 @@
 //! What is read off a tree itself.
-ghost use Rattle.std.specs.Prelude.{◌≡◌, ◌<◌, [], map};
+ghost use Rattle.std.specs.Prelude.{◌≡◌, ◌∷◌, [], map, IfSome};
 ghost use Rattle.c_typing.specs.Judged.{no_place, spells, is_token};
 ghost use Rattle.c_typing.specs.Texts.{has, type_of_words};
 ghost use Rattle.c_typing.specs.Programs.{judged, texts};
@@ -38,6 +38,44 @@ pub fn front(parts: &[Raw]) -> Fronted<'_>
     }
 }
 
+/// An operator between two operands.
+#[derive(Clone, Copy)]
+pub struct Operation<'a> {
+    pub left: &'a Raw,
+    pub operator: &'a Raw,
+    pub right: &'a Raw,
+}
+
+/// The operator between two operands that a tree is, if it is one. No clause needs a `None` to be right: it is a matter of the stack alone.
+pub fn operation_of(raw: &Raw) -> Option<Operation<'_>>
+    ensures { IfSome result (λ o. raw.now ≡ Raw.Node RawRule.Binary (o.left.now ∷ o.operator.now ∷ o.right.now ∷ [])) }
+{
+    match raw {
+        Raw::Leaf { .. } => None,
+        Raw::Node { rule, parts } => match *rule {
+            RawRule::Binary => joined(parts.as_slice()),
+            _ => None,
+        },
+    }
+}
+
+/// The operator between two operands that these parts are.
+fn joined(parts: &[Raw]) -> Option<Operation<'_>>
+    ensures { IfSome result (λ o. parts.now ≡ o.left.now ∷ o.operator.now ∷ o.right.now ∷ []) }
+{
+    match front(parts) {
+        Fronted::More(left, operator, rest) => match front(rest) {
+            Fronted::One(right) => Some(Operation {
+                left,
+                operator,
+                right,
+            }),
+            _ => None,
+        },
+        _ => None,
+    }
+}
+
 /// The rule of a node, and none of a token.
 pub fn rule(raw: &Raw) -> Option<RawRule>
     ensures { result ≡ (judged raw.now).rule }
@@ -72,17 +110,20 @@ pub fn text(raw: &Raw) -> &[u8]
     }
 }
 
-/// Where the first token of a tree stands.
-#[tactic(auto, using(c_typing::proofs::Judging::judged_leaf, c_typing::proofs::Judging::judged_node))]
+/// Where the first token of a tree stands. Left operands lie within each other as long as a text wants.
+#[tactic(auto, using(c_typing::proofs::Judging::judged_leaf, c_typing::proofs::Judging::judged_node, c_typing::proofs::Judging::size_node))]
 pub fn place(raw: &Raw) -> Place
     ensures { result ≡ (judged raw.now).place }
 {
-    match raw {
-        Raw::Leaf { place, .. } => *place,
-        Raw::Node { parts, .. } => match front(parts.as_slice()) {
-            Fronted::Empty => NO_PLACE,
-            Fronted::One(part) | Fronted::More(part, _, _) => place(part),
-        },
+    let mut at = raw;
+    loop {
+        match at {
+            Raw::Leaf { place, .. } => return *place,
+            Raw::Node { parts, .. } => match front(parts.as_slice()) {
+                Fronted::Empty => return NO_PLACE,
+                Fronted::One(part) | Fronted::More(part, _, _) => at = part,
+            },
+        }
     }
 }
 

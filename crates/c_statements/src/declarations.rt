@@ -168,7 +168,10 @@ fn length_value(alloc: Global, part: &Raw, state: &mut State) -> Result<u16, NoM
     ensures { Makes (spec.length_value (judged part.now)) state.old result state.new }
 {
     let e = value_of(alloc, part, state)?;
-    let constant = constant_of(&e);
+    let Ok(constant) = constant_of(alloc, &e) else {
+        drop(e);
+        return Err(NoMemory);
+    };
     let length = length_from(&e, constant, state);
     drop(e);
     length
@@ -440,7 +443,7 @@ fn words(alloc: Global, es: &[Expr], state: &mut State) -> Result<Items<u16>, No
     let mut done = Items::new(alloc);
     let mut rest = es;
     while let Some((e, behind)) = rest.split_first() {
-        let constant = constant_of(e);
+        let constant = constant_of(alloc, e)?;
         let w = word_from(e, constant, state)?;
         push(&mut done, w)?;
         rest = behind;

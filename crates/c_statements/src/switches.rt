@@ -1,5 +1,5 @@
 //! Labels of a `switch` (C11 6.8.4.2).
-ghost use Rattle.std.specs.Prelude.{◌≡◌, ◌∷◌, [], ◌++◌, map, OnOk};
+ghost use Rattle.std.specs.Prelude.{◌≡◌, ◌∷◌, [], ◌++◌, map, IfOk, OnOk};
 ghost use Rattle.c_tree.specs.Nodes as nodes;
 ghost use Rattle.c_typing.specs.Parts.{Makes, uncounted};
 ghost use Rattle.c_typing.specs.Programs.{judged};
@@ -150,12 +150,12 @@ fn uncounted_value(alloc: Global, part: &Raw, ty: Ty, state: &mut State) -> Resu
 }
 
 /// The word of a constant, as labels hold it.
-fn label_word(e: &Expr) -> Option<u32>
-    ensures { result ≡ constants.constant_of e.now }
+fn label_word(alloc: Global, e: &Expr) -> Result<Option<u32>, NoMemory>
+    ensures { IfOk result (λ word. word ≡ constants.constant_of e.now) }
 {
-    match constant_of(e) {
-        Some(word) => Some(word as u32),
-        None => None,
+    match constant_of(alloc, e)? {
+        Some(word) => Ok(Some(word as u32)),
+        None => Ok(None),
     }
 }
 
@@ -172,7 +172,10 @@ fn case_label(
     ensures { Makes (spec.case_by place (judged part.now) ty (before.now ++ labels.now)) state.old result state.new }
 {
     let e = uncounted_value(alloc, part, ty, state)?;
-    let value = label_word(&e);
+    let Ok(value) = label_word(alloc, &e) else {
+        drop(e);
+        return Err(NoMemory);
+    };
     case_from(alloc, place, before, labels, e, value, state)
 }
 

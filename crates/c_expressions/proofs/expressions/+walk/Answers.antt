@@ -1,9 +1,20 @@
-use Rattle.std.proofs.Common.{◌≡◌, sym, map, [], ap, ◌∙◌}
+use Rattle.std.proofs.Common.{◌≡◌, sym, map, [], ap, ◌∙◌, arith}
 use Rattle.c_typing.specs.Parts.{Gives, Makes, ◌>>=◌}
 use Rattle.c_typing.specs.Programs.{judged}
 use Rattle.c_typing.specs.Expressions as spec
 use Rattle.c_typing.proofs.Making.{makes_then, named_call}
+use Rattle.c_expressions.specs.Operations.{rights}
+use Rattle.c_expressions.proofs.Operations.{comes_next, operands_below}
 use Rattle.c_expressions.proofs.expressions.+walk.Goals as goal
+
+pub left-loop-operation-smaller : goal.left-loop-operation-smaller
+left-loop-operation-smaller t c = omega (arith, operands_below c.loop-operation.at.now c.in-Some.operation c.in-Some.ensures)
+
+pub left-loop-operation-preserved : goal.left-loop-operation-preserved
+left-loop-operation-preserved t c = (
+  comes_next c.args.raw.now c.loop-operation.at.now c.in-Some.operation _ _ c.in-Some.ensures c.in_ok-keep.ensures c.loop-operation.invariant.0,
+  omega (arith, c.loop-operation.invariant.1, operands_below c.loop-operation.at.now c.in-Some.operation c.in-Some.ensures, ap rights c.in_ok-keep.ensures),
+)
 
 pub call-returns : goal.call-returns
 call-returns t c =
