@@ -25,8 +25,8 @@ use Rattle.c_typing.specs.Texts.{compound_op, increment_op}
 use Rattle.sound_programs.specs.Sound.{Typing, has_value, has_type, has_promoted, promoted, is_shift, is_compound, is_step, target_fits, assign_fits, update_fits, works_in, action_fits}
 use Rattle.sound_programs.specs.Calls.{opt_below, action_below}
 use Rattle.sound_programs.specs.Counted.{opt_nodes, action_nodes}
-use Rattle.accepted_programs.specs.Scoped as scoped
-use Rattle.accepted_programs.specs.Scoped.{holds, names, names_opt, action_names}
+use Rattle.sound_programs.specs.Scoped as scoped
+use Rattle.sound_programs.specs.Scoped.{holds, names, names_opt, action_names}
 use Rattle.accepted_programs.proofs.Walk.{World, Env, Makes, Saw, below, makes_pure, makes_if, makes_then, count_then, fails, note_if_then, looked_then, either_of}
 use Rattle.accepted_programs.proofs.Types.{same_refl}
 use Rattle.accepted_programs.proofs.Trees.{Covers, Whole, Good, value, both}

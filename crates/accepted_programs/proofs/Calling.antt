@@ -25,8 +25,8 @@ use Rattle.c_typing.specs.Expressions as rule
 use Rattle.sound_programs.specs.Sound.{Typing, typing, result_typing, all_hold, value_if}
 use Rattle.sound_programs.specs.Calls.{calls_below, is_below}
 use Rattle.sound_programs.specs.Counted.{expr_nodes, sum_of}
-use Rattle.accepted_programs.specs.Scoped as scoped
-use Rattle.accepted_programs.specs.Scoped.{names, all_in}
+use Rattle.sound_programs.specs.Scoped as scoped
+use Rattle.sound_programs.specs.Scoped.{names, all_in}
 use Rattle.accepted_programs.proofs.Walk.{World, Env, Makes, Saw, SameTypes, below, contains_before, contains_last, makes_pure, makes_if, makes_then, fails, note_if_then, looked_then, either_of}
 use Rattle.accepted_programs.proofs.Types.{same_refl}
 use Rattle.accepted_programs.proofs.Trees.{AreOf, IsOf, Whole, Good, value, tree, both, good_input, good_output, good_call, GoodArgs, TypedArgs}

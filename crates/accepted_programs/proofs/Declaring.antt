@@ -20,8 +20,8 @@ use Rattle.c_typing.specs.Declarations as rule
 use Rattle.sound_programs.specs.Sound.{typing, has_type, length_fits, declared_as, declared_fit, values_fit, capacity}
 use Rattle.sound_programs.specs.Calls.{Below, calls_below, exprs_below, declared_below}
 use Rattle.sound_programs.specs.Counted.{expr_nodes, exprs_nodes, declarator_nodes, declared_nodes}
-use Rattle.accepted_programs.specs.Scoped as scoped
-use Rattle.accepted_programs.specs.Scoped.{holds, names, names_each, declared_names, declared_behind, numbers_of}
+use Rattle.sound_programs.specs.Scoped as scoped
+use Rattle.sound_programs.specs.Scoped.{holds, names, names_each, declared_names, declared_behind, numbers_of}
 use Rattle.accepted_programs.proofs.Walk.{World, Env, Makes, below, makes_pure, makes_if, makes_then, fails, note_if_then, either_of, makes_uncounted}
 use Rattle.accepted_programs.proofs.Types.{same_refl}
 use Rattle.accepted_programs.proofs.Trees.{Covers, Whole, Good, value, both}

@@ -17,8 +17,8 @@ use Rattle.c_typing.specs.Functions as rule
 use Rattle.sound_programs.specs.Sound as sound
 use Rattle.sound_programs.specs.Calls.{functions_below, stmt_below}
 use Rattle.sound_programs.specs.Counted.{functions_nodes, stmt_nodes, implied_nodes}
-use Rattle.accepted_programs.specs.Scoped as scoped
-use Rattle.accepted_programs.specs.Scoped.{holds, in_body, functions_scoped, globals_from, global_or, introduced, locals}
+use Rattle.sound_programs.specs.Scoped as scoped
+use Rattle.sound_programs.specs.Scoped.{holds, in_body, functions_scoped, globals_from, global_or, introduced, locals}
 use Rattle.accepted_programs.proofs.Walk.{World, Env, below, file_of}
 use Rattle.accepted_programs.proofs.Trees.{AreOf}
 use Rattle.accepted_programs.proofs.Calling.{length_snoc}

@@ -1,6 +1,6 @@
 -- What the rules of the objects of the file make is good, where it is of their parts.
-use Rattle.std.proofs.Common.{◌≡◌, refl, sym, ap, subst, ◌∙◌, ℕ, suc, ◌+◌, ◌≤◌, add-zero, add_assoc, append-nil, append_assoc, Bool, true, Option, Some, None, List, [], ◌∷◌, ◌++◌, inl, inr, arith}
-use Rattle.std.specs.Prelude.{slice_get, length, nat_le}
+use Rattle.std.proofs.Common.{◌≡◌, refl, sym, ap, subst, ◌∙◌, ℕ, suc, ◌+◌, ◌≤◌, add-zero, add_assoc, append-nil, append_assoc, Bool, true, false, Option, Some, None, List, [], ◌∷◌, ◌++◌, inl, inr, arith}
+use Rattle.std.specs.Prelude.{slice_get, length, nat_le, nat_lt, ◌^◌, ◌&&◌}
 use Rattle.std.proofs.lemmas.Bool.Decides.{nat_tests}
 use Rattle.c_values.specs.declared.ops.Ty.{Ty}
 use Rattle.c_tree.specs.declared.tree.Expr.{Expr}
@@ -18,12 +18,13 @@ use Rattle.c_typing.specs.Constants.{constant_of}
 use Rattle.c_typing.specs.Judged.{Judged}
 use Rattle.c_typing.specs.Declarations as rule
 use Rattle.sound_programs.specs.Sound as sound
-use Rattle.sound_programs.specs.Sound.{capacity, length_fits, first_words_fit}
+use Rattle.sound_programs.specs.Sound.{capacity, length_fits, words_fit, first_words_fit}
 use Rattle.sound_programs.specs.Calls.{functions_below}
 use Rattle.sound_programs.specs.Counted.{functions_nodes}
-use Rattle.accepted_programs.specs.Scoped.{functions_scoped, globals_from, introduced}
+use Rattle.sound_programs.specs.Scoped.{functions_scoped, globals_from, introduced}
 use Rattle.accepted_programs.proofs.Walk.{World, Env, Makes, file_of, makes_pure, makes_if, makes_then, fails, makes_uncounted}
-use Rattle.accepted_programs.proofs.Trees.{Whole, AreOf}
+use Rattle.accepted_programs.proofs.Trees.{Whole, AreOf, both}
+use Rattle.accepted_programs.proofs.Words.{constant_word}
 use Rattle.accepted_programs.proofs.Values.{Fit, IsExpr}
 use Rattle.accepted_programs.proofs.Calling.{length_snoc}
 use Rattle.accepted_programs.proofs.Doing.{Has, has_pure, has_if, has_then, has_given}
@@ -71,17 +72,28 @@ between_more low high more (x ∷ xs) h k = (k.0, between_more (suc x) high more
 -- ---- objects of the file
 
 module _ (w : World) where
-  word_makes : (e : Env) (X : Type 0) (x : Expr) (o : Option ℕ) → Makes w e X (rule.word_from x o) (λ k n. n ≡ 0)
-  word_makes e X x None = let none : ℕ = 0 in fails w e X (fault.NotConst x.place) none (λ k n. n ≡ 0)
-  word_makes e X x (Some k) = makes_pure w e X k (λ k n. n ≡ 0) (λ q. refl)
+  abbrev IsSmall : ℕ → ℕ → Type 0
+  IsSmall k n = (n ≡ 0) × (nat_lt k (2 ^ 16) ≡ true)
 
-  onto_makes : (e : Env) (X : Type 0) (done : List ℕ) (xs : List Expr) → Makes w e X (rule.words_onto done xs) (λ ws n. (n ≡ 0) × (length ws ≡ length done + length xs))
-  onto_makes e X done [] = makes_pure w e X done (λ ws n. (n ≡ 0) × (length ws ≡ length done + 0)) (λ q. (refl, sym (add-zero (length done))))
-  onto_makes e X done (x ∷ xs) =
-      makes_then w e X (rule.word_from x (constant_of x)) (λ k. rule.words_onto (done ++ k ∷ []) xs) (λ k n. n ≡ 0) (λ ws n. (n ≡ 0) × (length ws ≡ length done + suc (length xs)))
-      (word_makes e X x (constant_of x))
-      (λ k n. makes_if w e (X × (n ≡ 0)) (X × (n ≡ 0)) (rule.words_onto (done ++ k ∷ []) xs) (λ ws m. (m ≡ 0) × (length ws ≡ length (done ++ k ∷ []) + length xs)) (λ ws m. (n + m ≡ 0) × (length ws ≡ length done + suc (length xs))) (λ q. q)
-      (λ ws m q f. (sums n m q.1 f.0, f.1 ∙ lengths (length (done ++ k ∷ [])) (length done) (length xs) (length_snoc done k))) (onto_makes e (X × (n ≡ 0)) (done ++ k ∷ []) xs))
+  word_makes : (e : Env) (X : Type 0) (x : Expr) (o : Option ℕ) → ((k : ℕ) → o ≡ Some k → nat_lt k (2 ^ 16) ≡ true) → Makes w e X (rule.word_from x o) IsSmall
+  word_makes e X x None h = let none : ℕ = 0 in fails w e X (fault.NotConst x.place) none IsSmall
+  word_makes e X x (Some k) h = makes_pure w e X k IsSmall (λ q. (refl, h k refl))
+
+  words_snoc : (ws : List ℕ) (k : ℕ) → words_fit ws ≡ true → nat_lt k (2 ^ 16) ≡ true → words_fit (ws ++ k ∷ []) ≡ true
+  words_snoc [] k h l = both (nat_lt k (2 ^ 16)) true l refl
+  words_snoc (x ∷ ws) k h l = by (nat_lt x (2 ^ 16)) h (λ r. words_snoc ws k r l)
+    where
+      by : (b : Bool) → (b && words_fit ws) ≡ true → (words_fit ws ≡ true → words_fit (ws ++ k ∷ []) ≡ true) → (b && words_fit (ws ++ k ∷ [])) ≡ true
+      by true h r = r h
+      by false h r = cc
+
+  onto_makes : (e : Env) (X : Type 0) (done : List ℕ) (xs : List Expr) → (X → words_fit done ≡ true) → Makes w e X (rule.words_onto done xs) (λ ws n. (n ≡ 0) × (length ws ≡ length done + length xs) × (words_fit ws ≡ true))
+  onto_makes e X done [] h = makes_pure w e X done (λ ws n. (n ≡ 0) × (length ws ≡ length done + 0) × (words_fit ws ≡ true)) (λ q. (refl, sym (add-zero (length done)), h q))
+  onto_makes e X done (x ∷ xs) h =
+      makes_then w e X (rule.word_from x (constant_of x)) (λ k. rule.words_onto (done ++ k ∷ []) xs) IsSmall (λ ws n. (n ≡ 0) × (length ws ≡ length done + suc (length xs)) × (words_fit ws ≡ true))
+      (word_makes e X x (constant_of x) (λ k is. constant_word x k is))
+      (λ k n. makes_if w e (X × IsSmall k n) (X × IsSmall k n) (rule.words_onto (done ++ k ∷ []) xs) (λ ws m. (m ≡ 0) × (length ws ≡ length (done ++ k ∷ []) + length xs) × (words_fit ws ≡ true)) (λ ws m. (n + m ≡ 0) × (length ws ≡ length done + suc (length xs)) × (words_fit ws ≡ true)) (λ q. q)
+      (λ ws m q f. (sums n m q.1.0 f.0, f.1 ∙ lengths (length (done ++ k ∷ [])) (length done) (length xs) (length_snoc done k), f.2)) (onto_makes e (X × IsSmall k n) (done ++ k ∷ []) xs (λ q. words_snoc done k (h q.0) q.1.1)))
     where
       sums : (n m : ℕ) → n ≡ 0 → m ≡ 0 → n + m ≡ 0
       sums n m h k = omega (arith, h, k)
@@ -89,13 +101,13 @@ module _ (w : World) where
       lengths : (a b c : ℕ) → a ≡ b + 1 → a + c ≡ b + suc c
       lengths a b c h = omega (arith, h)
 
-  words_make : (ty : Ty) (most : ℕ) (values : Part (List Expr)) → ((e : Env) → Makes w e (Fit w e) values (FewValues w e ty most)) → (e : Env) → Makes w e (Fit w e) (rule.words_from values) (λ ws n. (n ≡ 0) × (length ws ≤ most))
+  words_make : (ty : Ty) (most : ℕ) (values : Part (List Expr)) → ((e : Env) → Makes w e (Fit w e) values (FewValues w e ty most)) → (e : Env) → Makes w e (Fit w e) (rule.words_from values) (λ ws n. (n ≡ 0) × (length ws ≤ most) × (words_fit ws ≡ true))
   words_make ty most values h e =
-      makes_then w e (Fit w e) (uncounted values) (rule.words_onto []) (λ xs n. (n ≡ 0) × ((m : ℕ) × FewValues w e ty most xs m)) (λ ws n. (n ≡ 0) × (length ws ≤ most))
+      makes_then w e (Fit w e) (uncounted values) (rule.words_onto []) (λ xs n. (n ≡ 0) × ((m : ℕ) × FewValues w e ty most xs m)) (λ ws n. (n ≡ 0) × (length ws ≤ most) × (words_fit ws ≡ true))
       (makes_uncounted w e (Fit w e) values (FewValues w e ty most) (h e))
       (λ xs n. makes_if w e (Fit w e × ((n ≡ 0) × ((m : ℕ) × FewValues w e ty most xs m))) (Fit w e × ((n ≡ 0) × ((m : ℕ) × FewValues w e ty most xs m))) (rule.words_onto [] xs)
-      (λ ws m. (m ≡ 0) × (length ws ≡ 0 + length xs)) (λ ws m. (n + m ≡ 0) × (length ws ≤ most)) (λ q. q)
-      (λ ws m q f. (sums n m q.1.0 f.0, bound (length ws) (length xs) most f.1 q.1.1.1.few)) (onto_makes e _ [] xs))
+      (λ ws m. (m ≡ 0) × (length ws ≡ 0 + length xs) × (words_fit ws ≡ true)) (λ ws m. (n + m ≡ 0) × (length ws ≤ most) × (words_fit ws ≡ true)) (λ q. q)
+      (λ ws m q f. (sums n m q.1.0 f.0, bound (length ws) (length xs) most f.1 q.1.1.1.few, f.2)) (onto_makes e _ [] xs (λ q. refl)))
     where
       sums : (n m : ℕ) → n ≡ 0 → m ≡ 0 → n + m ≡ 0
       sums n m h k = omega (arith, h, k)
@@ -137,11 +149,11 @@ module _ (w : World) where
   few_test : (a b : ℕ) → a ≤ b → nat_le a b ≡ true
   few_test a b h = grind (arith, nat_tests)
 
-  made_has : (base : Base) (name : Judged) (size : Option ℕ) (ws : List ℕ) (m n : ℕ) → Has w (λ e. File w e m × (n ≡ 0) × (length ws ≤ capacity size) × (length_fits size ≡ true)) (rule.made_global base name size ws) (λ e _ e' k. Files w [] m e e' (n + k))
+  made_has : (base : Base) (name : Judged) (size : Option ℕ) (ws : List ℕ) (m n : ℕ) → Has w (λ e. File w e m × (n ≡ 0) × (length ws ≤ capacity size) × (length_fits size ≡ true) × (words_fit ws ≡ true)) (rule.made_global base name size ws) (λ e _ e' k. Files w [] m e e' (n + k))
   made_has base name size ws m n =
-      has_then w (λ e. File w e m × (n ≡ 0) × (length ws ≤ capacity size) × (length_fits size ≡ true)) (rule.add_object name.text name.place base.constant (global_variable base size ws)) (λ _. skip) (Added w name.text base.constant (global_variable base size ws)) (λ e _ e' k. Files w [] m e e' (n + k))
-      (has_object w (λ e. File w e m × (n ≡ 0) × (length ws ≤ capacity size) × (length_fits size ≡ true)) name.text name.place base.constant (global_variable base size ws) (λ e q. (q.3, few_test (length ws) (capacity size) q.2)))
-      (λ e x k. has_pure w (λ e'. (File w e m × (n ≡ 0) × (length ws ≤ capacity size) × (length_fits size ≡ true)) × Added w name.text base.constant (global_variable base size ws) e x e' k) (tt {0}) (λ e' _ e2 j. Files w [] m e e2 (n + (k + j)))
+      has_then w (λ e. File w e m × (n ≡ 0) × (length ws ≤ capacity size) × (length_fits size ≡ true) × (words_fit ws ≡ true)) (rule.add_object name.text name.place base.constant (global_variable base size ws)) (λ _. skip) (Added w name.text base.constant (global_variable base size ws)) (λ e _ e' k. Files w [] m e e' (n + k))
+      (has_object w (λ e. File w e m × (n ≡ 0) × (length ws ≤ capacity size) × (length_fits size ≡ true) × (words_fit ws ≡ true)) name.text name.place base.constant (global_variable base size ws) (λ e q. (q.3, both (nat_le (length ws) (capacity size)) (words_fit ws) (few_test (length ws) (capacity size) q.2) q.4)))
+      (λ e x k. has_pure w (λ e'. (File w e m × (n ≡ 0) × (length ws ≤ capacity size) × (length_fits size ≡ true) × (words_fit ws ≡ true)) × Added w name.text base.constant (global_variable base size ws) e x e' k) (tt {0}) (λ e' _ e2 j. Files w [] m e e2 (n + (k + j)))
       (λ e' q core. subst (λ z. Files w [] m e e' z) (sums n k q.0.1) (filed_object name.text base.constant (global_variable base size ws) e x e' m k refl q.0.0 q.1)))
     where
       sums : (n k : ℕ) → n ≡ 0 → k ≡ n + (k + 0)
@@ -153,10 +165,10 @@ module _ (w : World) where
   initialised_has base name size values m n h =
       has_given w (λ e. File w e m × ((n ≡ 0) × (length_fits size ≡ true))) (rule.begin_initialiser name.text) (λ _. rule.words_from values >>= rule.made_global base name size) (λ e _ i. i ≡ 0) (λ e _ e' k. Files w [] m e e' (n + k))
       (λ e. begin_makes w name.text e (Fit w e))
-      (λ u i. has_given w (λ e. (File w e m × ((n ≡ 0) × (length_fits size ≡ true))) × (i ≡ 0)) (rule.words_from values) (rule.made_global base name size) (λ e ws j. (j ≡ 0) × (length ws ≤ capacity size)) (λ e _ e' k. Files w [] m e e' (n + (i + k)))
+      (λ u i. has_given w (λ e. (File w e m × ((n ≡ 0) × (length_fits size ≡ true))) × (i ≡ 0)) (rule.words_from values) (rule.made_global base name size) (λ e ws j. (j ≡ 0) × (length ws ≤ capacity size) × (words_fit ws ≡ true)) (λ e _ e' k. Files w [] m e e' (n + (i + k)))
       (words_make base.ty (capacity size) values h)
-      (λ ws j. has_if w (λ e. ((File w e m × ((n ≡ 0) × (length_fits size ≡ true))) × (i ≡ 0)) × ((j ≡ 0) × (length ws ≤ capacity size))) (λ e. File w e m × (j ≡ 0) × (length ws ≤ capacity size) × (length_fits size ≡ true)) (rule.made_global base name size ws)
-      (λ e _ e' k. Files w [] m e e' (j + k)) (λ e _ e' k. Files w [] m e e' (n + (i + (j + k)))) (λ e q. (q.0.0.0, q.1.0, q.1.1, q.0.0.1.1))
+      (λ ws j. has_if w (λ e. ((File w e m × ((n ≡ 0) × (length_fits size ≡ true))) × (i ≡ 0)) × ((j ≡ 0) × (length ws ≤ capacity size) × (words_fit ws ≡ true))) (λ e. File w e m × (j ≡ 0) × (length ws ≤ capacity size) × (length_fits size ≡ true) × (words_fit ws ≡ true)) (rule.made_global base name size ws)
+      (λ e _ e' k. Files w [] m e e' (j + k)) (λ e _ e' k. Files w [] m e e' (n + (i + (j + k)))) (λ e q. (q.0.0.0, q.1.0, q.1.1, q.0.0.1.1, q.1.2))
       (λ e a e' k q core core' f. subst (λ z. Files w [] m e e' z) (sums n i j k q.0.0.1.0 q.0.1) f)
       (made_has base name size ws m j)))
     where

@@ -25,7 +25,7 @@ use Rattle.c_typing.specs.Programs.{judged, found, start, predeclared, first_sig
 use Rattle.sound_programs.specs.Sound as sound
 use Rattle.sound_programs.specs.Calls.{is_below}
 use Rattle.sound_programs.specs.SoundPrograms.{IsSound}
-use Rattle.accepted_programs.specs.Scoped.{IsScoped, is_named_main, ascends, introduced}
+use Rattle.sound_programs.specs.Scoped.{IsScoped, is_named_main, ascends, introduced}
 use Rattle.accepted_programs.proofs.Walk.{World, env, Ends, After, below, file_of}
 use Rattle.accepted_programs.proofs.Trees.{Whole, AreOf}
 use Rattle.accepted_programs.proofs.Values.{RoleFits}

@@ -19,9 +19,9 @@ use Rattle.c_typing.specs.Statements as rule
 use Rattle.sound_programs.specs.Sound.{has_value, stmt_by, parts_fit, stmt_fits, first_fits, step_fits, tests}
 use Rattle.sound_programs.specs.Calls.{stmt_calls_by, stmt_parts_below, stmt_below, opt_below, first_below, step_below}
 use Rattle.sound_programs.specs.Counted.{kind_nodes_by, counted_stmt, opt_nodes, stmt_nodes, first_nodes, step_nodes}
-use Rattle.accepted_programs.specs.Scoped as scoped
-use Rattle.accepted_programs.specs.Scoped.{Stand, in_loop, names_opt, first_names, first_behind, first_numbers, fits_by, locals, opt_action_names}
-use Rattle.accepted_programs.proofs.NameLevels.{scoped_parts, locals_parts}
+use Rattle.sound_programs.specs.Scoped as scoped
+use Rattle.sound_programs.specs.Scoped.{Stand, in_loop, names_opt, first_names, first_behind, first_numbers, fits_by, locals, opt_action_names}
+use Rattle.sound_programs.proofs.NameLevels.{scoped_parts, locals_parts}
 use Rattle.accepted_programs.proofs.Walk.{World, Env, below}
 use Rattle.accepted_programs.proofs.Trees.{Covers, Whole, both}
 use Rattle.accepted_programs.proofs.Values.{Fit, GoodExpr, IsExpr, value_makes}

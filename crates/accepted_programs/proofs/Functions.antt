@@ -30,10 +30,10 @@ use Rattle.sound_programs.specs.Calls as calls
 use Rattle.sound_programs.proofs.SoundLevels as sound_levels
 use Rattle.sound_programs.proofs.CallLevels as call_levels
 use Rattle.sound_programs.proofs.CountLevels as count_levels
-use Rattle.accepted_programs.proofs.NameLevels as name_levels
+use Rattle.sound_programs.proofs.NameLevels as name_levels
 use Rattle.sound_programs.specs.Counted.{stmt_nodes, functions_nodes, implied_nodes}
-use Rattle.accepted_programs.specs.Scoped as scoped
-use Rattle.accepted_programs.specs.Scoped.{Scoped, holds, in_body, locals, functions_scoped, globals_from, introduced}
+use Rattle.sound_programs.specs.Scoped as scoped
+use Rattle.sound_programs.specs.Scoped.{Scoped, holds, in_body, locals, functions_scoped, globals_from, introduced}
 use Rattle.accepted_programs.proofs.Walk.{World, Env, env, below, not_empty, After, after_more}
 use Rattle.accepted_programs.proofs.Trees.{Covers, Whole, AreOf, both}
 use Rattle.accepted_programs.proofs.Doing.{Core, Did, Has, Inside, Stays, Closed, inside_refl, inside_trans, has_pure, has_if, has_then, has_count, has_from}

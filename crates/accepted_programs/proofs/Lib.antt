@@ -1,4 +1,3 @@
-pub mod NameLevels
 pub mod Walk
 pub mod Types
 pub mod Trees
@@ -24,3 +23,9 @@ pub mod Heights
 pub mod Final
 pub mod Externals
 pub mod Grouping
+pub mod Leaves
+pub mod Forms
+pub mod EachExpression
+pub mod EachStatement
+pub mod EachExternal
+pub mod Read

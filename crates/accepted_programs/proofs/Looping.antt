@@ -20,9 +20,9 @@ use Rattle.sound_programs.specs.Counted as counted
 use Rattle.sound_programs.proofs.SoundLevels as sound_levels
 use Rattle.sound_programs.proofs.CallLevels as call_levels
 use Rattle.sound_programs.proofs.CountLevels as count_levels
-use Rattle.accepted_programs.specs.Scoped as scoped
-use Rattle.accepted_programs.specs.Scoped.{Stand, Scoped, in_loop, names, names_opt, first_names, first_behind, first_numbers, each_fits, last_ends, locals, item_locals, joined, scoped_item, opt_action_names}
-use Rattle.accepted_programs.proofs.NameLevels as name_levels
+use Rattle.sound_programs.specs.Scoped as scoped
+use Rattle.sound_programs.specs.Scoped.{Stand, Scoped, in_loop, names, names_opt, first_names, first_behind, first_numbers, each_fits, last_ends, locals, item_locals, joined, scoped_item, opt_action_names}
+use Rattle.sound_programs.proofs.NameLevels as name_levels
 use Rattle.accepted_programs.proofs.Walk.{World, Env, below}
 use Rattle.accepted_programs.proofs.Trees.{Covers, Whole, both}
 use Rattle.accepted_programs.proofs.Calling.{all_snoc, sum_snoc}

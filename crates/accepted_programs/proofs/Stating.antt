@@ -23,10 +23,10 @@ use Rattle.sound_programs.specs.Counted.{expr_nodes, stmt_nodes, kind_nodes_by, 
 use Rattle.sound_programs.proofs.SoundLevels as sound_levels
 use Rattle.sound_programs.proofs.CallLevels as call_levels
 use Rattle.sound_programs.proofs.CountLevels as count_levels
-use Rattle.accepted_programs.specs.Scoped as scoped
-use Rattle.accepted_programs.specs.Scoped.{Stand, Scoped, in_loop, in_switch, names, names_opt, action_names, first_names, first_behind, first_numbers, fits_by, ends_by, each_fits, last_ends, kind_by, locals, item_locals, stmt_numbers_by, joined, scoped_item, opt_fits, opt_action_names}
-use Rattle.accepted_programs.proofs.NameLevels as name_levels
-use Rattle.accepted_programs.proofs.NameLevels.{scoped_parts, locals_parts}
+use Rattle.sound_programs.specs.Scoped as scoped
+use Rattle.sound_programs.specs.Scoped.{Stand, Scoped, in_loop, in_switch, names, names_opt, action_names, first_names, first_behind, first_numbers, fits_by, ends_by, each_fits, last_ends, kind_by, locals, item_locals, stmt_numbers_by, joined, scoped_item, opt_fits, opt_action_names}
+use Rattle.sound_programs.proofs.NameLevels as name_levels
+use Rattle.sound_programs.proofs.NameLevels.{scoped_parts, locals_parts}
 use Rattle.accepted_programs.proofs.Walk.{World, Env, Makes, Saw, below, makes_pure, makes_then, fails, looked_then}
 use Rattle.accepted_programs.proofs.Types.{same_refl}
 use Rattle.accepted_programs.proofs.Trees.{Covers, Whole, Good, value, both}

@@ -16,8 +16,8 @@ use Rattle.c_typing.specs.Statements as rule
 use Rattle.sound_programs.specs.Sound.{has_promoted, group_fits, all_hold}
 use Rattle.sound_programs.specs.Calls.{group_below}
 use Rattle.sound_programs.specs.Counted.{expr_nodes, group_nodes, sum_of}
-use Rattle.accepted_programs.specs.Scoped as scoped
-use Rattle.accepted_programs.specs.Scoped.{Stand, Scoped, ScopedGroup, in_switch, names, each_fits, last_ends, groups_fit, all_labels, labels_differ, scoped_group, group_locals, joined}
+use Rattle.sound_programs.specs.Scoped as scoped
+use Rattle.sound_programs.specs.Scoped.{Stand, Scoped, ScopedGroup, in_switch, names, each_fits, last_ends, groups_fit, all_labels, labels_differ, scoped_group, group_locals, joined}
 use Rattle.accepted_programs.proofs.Walk.{World, Env, below}
 use Rattle.accepted_programs.proofs.Types.{by_promoted}
 use Rattle.accepted_programs.proofs.Trees.{Covers, Whole, Good, value, both}

@@ -14,15 +14,15 @@ use Rattle.c_typing.specs.Constants.{constant_of}
 use Rattle.c_typing.specs.Judged.{Judged}
 use Rattle.c_typing.specs.Expressions as expression
 use Rattle.c_typing.specs.Statements as rule
-use Rattle.sound_programs.specs.Sound.{label_fits, labels_fit, item_fits, group_fits, all_hold}
+use Rattle.sound_programs.specs.Sound.{label_fits, labels_fit, is_labelled, item_fits, group_fits, all_hold}
 use Rattle.sound_programs.specs.Calls.{group_below}
 use Rattle.sound_programs.specs.Counted.{group_nodes}
 use Rattle.sound_programs.proofs.SoundLevels as sound_levels
 use Rattle.sound_programs.proofs.CallLevels as call_levels
 use Rattle.sound_programs.proofs.CountLevels as count_levels
-use Rattle.accepted_programs.specs.Scoped as scoped
-use Rattle.accepted_programs.specs.Scoped.{Stand, Scoped, ScopedGroup, in_switch, names, each_fits, last_ends, groups_fit, all_labels, labels_differ, is_new, scoped_item, scoped_group, group_locals, item_locals, joined}
-use Rattle.accepted_programs.proofs.NameLevels as name_levels
+use Rattle.sound_programs.specs.Scoped as scoped
+use Rattle.sound_programs.specs.Scoped.{Stand, Scoped, ScopedGroup, in_switch, names, each_fits, last_ends, groups_fit, all_labels, labels_differ, is_new, scoped_item, scoped_group, group_locals, item_locals, joined}
+use Rattle.sound_programs.proofs.NameLevels as name_levels
 use Rattle.accepted_programs.proofs.Walk.{World, Env, Makes, below, makes_pure, makes_if, makes_then, count_then, fails, note_if_then, makes_uncounted}
 use Rattle.accepted_programs.proofs.Trees.{Covers, Whole, Good, value, both}
 use Rattle.accepted_programs.proofs.Values.{Fit, GoodExpr, IsExpr, value_makes, converted_makes}
@@ -172,6 +172,7 @@ module _ (w : World) where
 pub record GoodInner (w : World) (at : Stand) (ended : Bool) (before : List Label) (e : Env) (g : Group) (e' : Env) (n : ℕ) : Type 0 where
   pub differ : labels_differ (before ++ g.labels) ≡ true
   pub labels : labels_fit g.labels ≡ true
+  pub some_ : is_labelled g.labels ≡ true
   pub more : ℕ
   pub items : GoodItems w at ended e g.items e' more
   pub count : length g.labels + more ≡ n
@@ -197,54 +198,74 @@ module _ (w : World) where
     label_first : (b : Bool) (part : Judged) (rest : List Judged) → rule.is_label part.rule ≡ true → IsLabel w part.label → AreLabelled at b rest → AreLabelled at b (part ∷ rest)
     items_behind : (b : Bool) (part : Judged) (rest : List Judged) → rule.is_label part.rule ≡ false → AreItems w at false b (part ∷ rest) → AreLabelled at b (part ∷ rest)
 
-  abbrev pub Labels : List Label → List Label → Type 0
-  Labels before ls = (labels_differ (before ++ ls) ≡ true) × (labels_fit ls ≡ true)
+  -- labels so far, of which there may be none
+  abbrev Begun : List Label → List Label → Type 0
+  Begun before ls = (labels_differ (before ++ ls) ≡ true) × (labels_fit ls ≡ true)
 
-  label_more : (before ls : List Label) (more : List Label) (n : ℕ) → Labels before ls → GoodLabel (before ++ ls) more n → Labels before (ls ++ more) × (length (ls ++ more) ≡ length ls + n)
+  abbrev pub Labels : List Label → List Label → Type 0
+  Labels before ls = Begun before ls × (is_labelled ls ≡ true)
+
+  labelled_snoc : (ls : List Label) (l : Label) → is_labelled (ls ++ l ∷ []) ≡ true
+  labelled_snoc [] l = refl
+  labelled_snoc (x ∷ ls) l = refl
+
+  label_more : (before ls : List Label) (more : List Label) (n : ℕ) → Begun before ls → GoodLabel (before ++ ls) more n → Labels before (ls ++ more) × (length (ls ++ more) ≡ length ls + n)
   label_more before ls more n h g = (
     (
-      ap labels_differ (ap (λ z. before ++ (ls ++ z)) g.is ∙ sym (append_assoc before ls (g.label ∷ []))) ∙ differ_snoc (before ++ ls) g.label h.0 g.fresh,
-      ap labels_fit (ap (λ z. ls ++ z) g.is) ∙ fit_snoc ls g.label h.1 g.fits,
+      (
+        ap labels_differ (ap (λ z. before ++ (ls ++ z)) g.is ∙ sym (append_assoc before ls (g.label ∷ []))) ∙ differ_snoc (before ++ ls) g.label h.0 g.fresh,
+        ap labels_fit (ap (λ z. ls ++ z) g.is) ∙ fit_snoc ls g.label h.1 g.fits,
+      ),
+      ap is_labelled (ap (λ z. ls ++ z) g.is) ∙ labelled_snoc ls g.label,
     ),
     ap (λ (z : List Label). length (ls ++ z)) g.is ∙ (length_snoc ls g.label ∙ ap (λ k. length ls + k) (sym g.one)),
   )
 
   no_inner : (at : Stand) (before ls : List Label) (e : Env) → Labels before ls → GoodInner w at false before e (record { labels = ls; items = [] }) e (length ls + 0)
   no_inner at before ls e h = record {
-    differ = h.0;
-    labels = h.1;
+    differ = h.0.0;
+    labels = h.0.1;
+    some_ = h.1;
     more = 0;
     items = record { inside = inside_refl e; fits = λ whole. refl; calls = refl; scoped_ = λ scope covers. refl; covers = λ scope covers. covers; ends = λ h. absurd (no_truth h); locals_ = omega arith; nodes = refl };
     count = refl;
   }
 
+  -- a label, and what is behind it
+  first_has : (at : Stand) (b : Bool) (ty : Ty) (before ls : List Label) (part : Judged) (rest : List Judged) → rule.is_label part.rule ≡ true → IsLabel w part.label
+      → ((more : List Label) → Has w (λ e. Labels before (ls ++ more)) (rule.group_onto ty before (ls ++ more) rest) (λ e g e' m. GoodInner w at b before e g e' (length (ls ++ more) + m)))
+      → Has w (λ e. Begun before ls) (rule.group_onto ty before ls (part ∷ rest)) (λ e g e' n. GoodInner w at b before e g e' (length ls + n))
+  first_has at b ty before ls part rest h is behind =
+      has_true w (λ e. Begun before ls) (rule.is_label part.rule) (part.label ty (before ++ ls) >>= (λ more. rule.group_onto ty before (ls ++ more) rest)) (rule.items_onto [] (part ∷ rest) >>= (λ items. pure (record { labels = ls; items = items })))
+      (λ e g e' n. GoodInner w at b before e g e' (length ls + n)) h
+      (has_given w (λ e. Begun before ls) (part.label ty (before ++ ls)) (λ more. rule.group_onto ty before (ls ++ more) rest) (λ e more n. GoodLabel (before ++ ls) more n) (λ e g e' n. GoodInner w at b before e g e' (length ls + n))
+      (λ e. is ty (before ++ ls) e)
+      (λ more n. has_if w (λ e. Begun before ls × GoodLabel (before ++ ls) more n) (λ e. Labels before (ls ++ more)) (rule.group_onto ty before (ls ++ more) rest)
+      (λ e g e' m. GoodInner w at b before e g e' (length (ls ++ more) + m)) (λ e g e' m. GoodInner w at b before e g e' (length ls + (n + m)))
+      (λ e q. (label_more before ls more n q.0 q.1).0)
+      (λ e g e' m q core core' f. subst (λ k. GoodInner w at b before e g e' k) (ap (λ k. k + m) (label_more before ls more n q.0 q.1).1 ∙ add_assoc (length ls) n m) f)
+      (behind more)))
+
   onto_has : (at : Stand) (b : Bool) (ty : Ty) (before ls : List Label) (js : List Judged) → AreLabelled at b js
       → Has w (λ e. Labels before ls) (rule.group_onto ty before ls js) (λ e g e' n. GoodInner w at b before e g e' (length ls + n))
   onto_has at b ty before ls [] nothing = has_pure w (λ e. Labels before ls) (record { labels = ls; items = [] }) (λ e g e' n. GoodInner w at false before e g e' (length ls + n)) (λ e q core. no_inner at before ls e q)
   onto_has at b ty before ls (part ∷ rest) (label_first _ _ _ h is are) =
-      has_true w (λ e. Labels before ls) (rule.is_label part.rule) (part.label ty (before ++ ls) >>= (λ more. rule.group_onto ty before (ls ++ more) rest)) (rule.items_onto [] (part ∷ rest) >>= (λ items. pure (record { labels = ls; items = items })))
-      (λ e g e' n. GoodInner w at b before e g e' (length ls + n)) h
-      (has_given w (λ e. Labels before ls) (part.label ty (before ++ ls)) (λ more. rule.group_onto ty before (ls ++ more) rest) (λ e more n. GoodLabel (before ++ ls) more n) (λ e g e' n. GoodInner w at b before e g e' (length ls + n))
-      (λ e. is ty (before ++ ls) e)
-      (λ more n. has_if w (λ e. Labels before ls × GoodLabel (before ++ ls) more n) (λ e. Labels before (ls ++ more)) (rule.group_onto ty before (ls ++ more) rest)
-      (λ e g e' m. GoodInner w at b before e g e' (length (ls ++ more) + m)) (λ e g e' m. GoodInner w at b before e g e' (length ls + (n + m)))
-      (λ e q. (label_more before ls more n q.0 q.1).0)
-      (λ e g e' m q core core' f. subst (λ k. GoodInner w at b before e g e' k) (ap (λ k. k + m) (label_more before ls more n q.0 q.1).1 ∙ add_assoc (length ls) n m) f)
-      (onto_has at b ty before (ls ++ more) rest are)))
+      has_if w (λ e. Labels before ls) (λ e. Begun before ls) (rule.group_onto ty before ls (part ∷ rest)) (λ e g e' n. GoodInner w at b before e g e' (length ls + n)) (λ e g e' n. GoodInner w at b before e g e' (length ls + n)) (λ e q. q.0)
+      (λ e g e' n q core core' f. f) (first_has at b ty before ls part rest h is (λ more. onto_has at b ty before (ls ++ more) rest are))
   onto_has at b ty before ls (part ∷ rest) (items_behind _ _ _ h are) =
       has_false w (λ e. Labels before ls) (rule.is_label part.rule) (part.label ty (before ++ ls) >>= (λ more. rule.group_onto ty before (ls ++ more) rest)) (rule.items_onto [] (part ∷ rest) >>= (λ items. pure (record { labels = ls; items = items })))
       (λ e g e' n. GoodInner w at b before e g e' (length ls + n)) h
       (has_then w (λ e. Labels before ls) (rule.items_onto [] (part ∷ rest)) (λ items. pure (record { labels = ls; items = items })) (GoodItems w at b) (λ e g e' n. GoodInner w at b before e g e' (length ls + n))
       (has_if w (λ e. Labels before ls) (λ e. Unit {0}) (rule.items_onto [] (part ∷ rest)) (GoodItems w at b) (GoodItems w at b) (λ e q. tt) (λ e a e' n q core core' g. g) (items_has w at b (part ∷ rest) are))
       (λ e items n. has_pure w (λ e'. Labels before ls × GoodItems w at b e items e' n) (record { labels = ls; items = items }) (λ e' g e2 m. GoodInner w at b before e g e2 (length ls + (n + m)))
-      (λ e' q core. record { differ = q.0.0; labels = q.0.1; more = n; items = q.1; count = ap (λ k. length ls + k) (sym (add-zero n)) })))
+      (λ e' q core. record { differ = q.0.0.0; labels = q.0.0.1; some_ = q.0.1; more = n; items = q.1; count = ap (λ k. length ls + k) (sym (add-zero n)) })))
 
   group_good : (at : Stand) (b : Bool) (before : List Label) (e : Env) (g : Group) (e' : Env) (n : ℕ) → Closed (GoodInner w at b before) e g e' n → GoodGroup w at b before e g e' n
   group_good at b before e g e' n c =
       let f = c.fits in let i = f.items in record {
         differ = f.differ;
         stays = closed_stays w e c.last e' c.is c.inside;
-        fits = λ whole. sym (sound_levels.group_level w.program e.result g) ∙ both (labels_fit g.labels) (all_hold (map (item_fits w.program e.result) g.items)) f.labels (i.fits whole);
+        fits = λ whole. sym (sound_levels.group_level w.program e.result g) ∙ both (is_labelled g.labels) _ f.some_ (both (labels_fit g.labels) (all_hold (map (item_fits w.program e.result) g.items)) f.labels (i.fits whole));
         calls = sym (call_levels.group_level (below w (length e.functions)) g) ∙ i.calls;
         labels = ap (λ (z : ScopedGroup). z.labels) (sym (name_levels.scoped_group_level g));
         scoped_ = λ scope covers. ap (λ (z : ScopedGroup). each_fits at scope z.items) (sym (name_levels.scoped_group_level g)) ∙ i.scoped_ scope covers;
@@ -253,12 +274,12 @@ module _ (w : World) where
         nodes = sym (count_levels.group_level w.program g) ∙ (ap (λ k. length g.labels + k) i.nodes ∙ f.count);
       }
 
-  pub group_has : (at : Stand) (b : Bool) (js : List Judged) → AreLabelled at b js → IsGroup w at b (rule.group_by js)
-  group_has at b js are ty before =
-      has_if w (λ e. labels_differ before ≡ true) (λ e. labels_differ before ≡ true) (rule.group_by js ty before) (Closed (GoodInner w at b before)) (GoodGroup w at b before) (λ e q. q) (λ e g e' n q core core' c. group_good at b before e g e' n c)
-      (has_scoped w (λ e. labels_differ before ≡ true) (λ e. labels_differ before ≡ true) (rule.group_onto ty before [] js) (GoodInner w at b before) (λ e q core. q) (λ e a e' n g. g.items.inside)
-      (has_if w (λ e. labels_differ before ≡ true) (λ e. Labels before []) (rule.group_onto ty before [] js) (λ e g e' n. GoodInner w at b before e g e' (0 + n)) (GoodInner w at b before) (λ e q. (ap labels_differ (append-nil before) ∙ q, refl))
-      (λ e g e' n q core core' f. subst (λ k. GoodInner w at b before e g e' k) (zero_before n) f) (onto_has at b ty before [] js are)))
+  pub group_has : (at : Stand) (b : Bool) (part : Judged) (rest : List Judged) → rule.is_label part.rule ≡ true → IsLabel w part.label → AreLabelled at b rest → IsGroup w at b (rule.group_by (part ∷ rest))
+  group_has at b part rest h is are ty before =
+      has_if w (λ e. labels_differ before ≡ true) (λ e. labels_differ before ≡ true) (rule.group_by (part ∷ rest) ty before) (Closed (GoodInner w at b before)) (GoodGroup w at b before) (λ e q. q) (λ e g e' n q core core' c. group_good at b before e g e' n c)
+      (has_scoped w (λ e. labels_differ before ≡ true) (λ e. labels_differ before ≡ true) (rule.group_onto ty before [] (part ∷ rest)) (GoodInner w at b before) (λ e q core. q) (λ e a e' n g. g.items.inside)
+      (has_if w (λ e. labels_differ before ≡ true) (λ e. Begun before []) (rule.group_onto ty before [] (part ∷ rest)) (λ e g e' n. GoodInner w at b before e g e' (0 + n)) (GoodInner w at b before) (λ e q. (ap labels_differ (append-nil before) ∙ q, refl))
+      (λ e g e' n q core core' f. subst (λ k. GoodInner w at b before e g e' k) (zero_before n) f) (first_has at b ty before [] part rest h is (λ more. onto_has at b ty before more rest are))))
     where
       zero_before : (n : ℕ) → 0 + n ≡ n
       zero_before n = omega arith

@@ -26,9 +26,9 @@ use Rattle.sound_programs.specs.Counted.{expr_nodes, parts_nodes, counted, sum_o
 use Rattle.sound_programs.proofs.SoundLevels.{typing_level}
 use Rattle.sound_programs.proofs.CallLevels as call_levels
 use Rattle.sound_programs.proofs.CountLevels as count_levels
-use Rattle.accepted_programs.specs.Scoped as scoped
-use Rattle.accepted_programs.specs.Scoped.{holds, names, names_by, all_in, names_each}
-use Rattle.accepted_programs.proofs.NameLevels.{named, names_level}
+use Rattle.sound_programs.specs.Scoped as scoped
+use Rattle.sound_programs.specs.Scoped.{holds, names, names_by, all_in, names_each}
+use Rattle.sound_programs.proofs.NameLevels.{named, names_level}
 use Rattle.accepted_programs.proofs.Walk.{World, Env, below}
 use Rattle.accepted_programs.proofs.Types.{same_refl, unary_ok, binary_ok, choice_ok}
 

@@ -4,8 +4,7 @@
 mod externals;
 mod functions;
 mod parameters;
-mod sound_program;
 mod typed_program;
 
 pub use c_typing::TypeFault;
-pub use sound_program::typed;
+pub use typed_program::typed;

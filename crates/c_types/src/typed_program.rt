@@ -1,6 +1,9 @@
 //! The typed program of a tree, or the type fault that is answered.
-ghost use Rattle.std.specs.Prelude.{◌≡◌, ◌≢◌, ◌∷◌, [], IfOk, IfErr};
+ghost use Rattle.std.specs.Prelude.{◌≡◌, ◌≢◌, ◌∷◌, [], ◌<◌, ◌^◌, IfOk, IfErr};
 ghost use Rattle.c_tree.specs.declared.tree.Program.{Program};
+ghost use Rattle.sound_programs.specs.SoundPrograms.{IsSound};
+ghost use Rattle.sound_programs.specs.Scoped.{IsScoped};
+ghost use Rattle.accepted_programs.specs.Texts.{IsRead};
 ghost use Rattle.c_typing.specs.declared.type_fault.TypeFault.{TypeFault};
 ghost use Rattle.c_typing.specs.declared.type_fault.TypeFault.TheVariants as faults;
 ghost use Rattle.c_typing.specs.Programs as spec;
@@ -17,9 +20,14 @@ use sqlite_items::Items;
 use std::alloc::Global;
 
 /// The typed program of a tree. Else the fault that is answered: of several the one that stands first in the text; where there is none but
-/// recursion, that of the first call on a cycle; and only where there is none at all, that `main` is missing.
+/// recursion, that of the first call on a cycle; and only where there is none at all, that `main` is missing. A tree of 2^29 nodes or more
+/// is answered by want of memory.
 pub fn typed(alloc: Global, raw: &Raw) -> Result<Program, TypeFault>
+    requires read { IsRead raw.now }
     ensures accepts { IfOk result (λ p. Accepts raw.now p) }
+    // By the law of what is accepted: nothing of the program is looked over.
+    ensures sound { IfOk result (λ p. IsSound p) }
+    ensures scoped { IfOk result (λ p. IsScoped p) }
     ensures refuses { IfErr result (λ fault. fault ≢ faults.Memory → Refuses raw.now fault) }
     ensures only { IfOk result (λ p. (other : Program) → Accepts raw.now other → other ≡ p) }
     ensures no_fault { IfOk result (λ p. (fault : TypeFault) → Refuses raw.now fault → ⊥) }
@@ -32,9 +40,13 @@ pub fn typed(alloc: Global, raw: &Raw) -> Result<Program, TypeFault>
     }
 }
 
+/// A program has fewer nodes than this.
+const MOST_NODES: u64 = 1 << 29;
+
 /// All that is found of a text.
 fn found(alloc: Global, raw: &Raw) -> Result<State, NoMemory>
-    ensures { IfOk result (λ state. state ≡ spec.found raw.now) }
+    ensures is { IfOk result (λ state. state ≡ spec.found raw.now) }
+    ensures few { IfOk result (λ state. state.nodes < 2 ^ 29) }
 {
     let mut defined = Items::new(alloc);
     add_defines(alloc, raw, &mut defined)?;
@@ -43,6 +55,10 @@ fn found(alloc: Global, raw: &Raw) -> Result<State, NoMemory>
         drop(state);
         return Err(NoMemory);
     };
+    if state.nodes >= MOST_NODES {
+        drop(state);
+        return Err(NoMemory);
+    }
     Ok(state)
 }
 

@@ -1,5 +1,7 @@
 //! Texts of programs.
-ghost use Rattle.std.specs.Prelude.{◌≡◌, ◌≤◌, MatchResult, length};
+ghost use Rattle.std.specs.Prelude.{◌≡◌, ◌≤◌, IfOk, MatchResult, length};
+ghost use Rattle.sound_programs.specs.SoundPrograms.{IsSound};
+ghost use Rattle.sound_programs.specs.Scoped.{IsScoped};
 ghost use Rattle.program_texts.specs.Front.{IsTextOf};
 ghost use Rattle.job_files.specs.Answers.{IsRefusedFor, answer_of};
 ghost use Rattle.job_files.specs.Reads.{most_program};
@@ -35,10 +37,12 @@ fn named(fault: TextRefusal) -> ProgramRefusal
     }
 }
 
-/// The program of a text, or its first fault.
+/// The program of a text, which is sound and in scope, or its first fault.
 pub fn program_in(alloc: Global, text: &[u8]) -> Result<Program, Status>
     requires { length text.now ≤ most_program }
-    ensures { MatchResult result (λ p. IsTextOf text.now p) (λ s. IsRefusedFor (RefusesProgram text.now) (answer_of s)) }
+    ensures found { MatchResult result (λ p. IsTextOf text.now p) (λ s. IsRefusedFor (RefusesProgram text.now) (answer_of s)) }
+    ensures sound { IfOk result (λ p. IsSound p) }
+    ensures scoped { IfOk result (λ p. IsScoped p) }
 {
     match program_of(alloc, text) {
         Ok(program) => Ok(program),

@@ -1,6 +1,8 @@
 //! The front end: the program that a text is, or its first fault.
-ghost use Rattle.std.specs.Prelude.{◌≡◌, ◌≢◌, ◌≤◌, length, IfErr, IfOk};
+ghost use Rattle.std.specs.Prelude.{◌≡◌, ◌≢◌, ◌≤◌, ◌<◌, ℕ, length, slice_index, IfErr, IfOk};
 ghost use Rattle.c_tree.specs.declared.tree.Program.{Program};
+ghost use Rattle.sound_programs.specs.SoundPrograms.{IsSound};
+ghost use Rattle.sound_programs.specs.Scoped.{IsScoped};
 ghost use Rattle.program_texts.specs.declared.fault.ProgramFault.{ProgramFault};
 ghost use Rattle.program_texts.specs.Front.{HasFault, IsFault, IsTextOf, of_tokens, of_tree, of_types};
 
@@ -59,10 +61,20 @@ fn of_types(fault: TypeFault) -> ProgramFault
     }
 }
 
-/// The program of a text, or the first fault of the text.
+// What the type of bytes says of each of them.
+fn bytes_are_small(text: &[u8])
+    ensures { (i : ℕ) → slice_index text.now i < 256 }
+{
+    let _ = text;
+}
+
+/// The program of a text, which is sound and in scope, or the first fault of the text.
+#[tactic(auto, using(crate::proofs::TreeRead::is_read))]
 pub fn program_of(alloc: Global, text: &[u8]) -> Result<Program, ProgramFault>
     requires { length text.now ≤ 65536 }
     ensures found { IfOk result (λ p. IsTextOf text.now p) }
+    ensures sound { IfOk result (λ p. IsSound p) }
+    ensures scoped { IfOk result (λ p. IsScoped p) }
     ensures only { IfOk result (λ p. (other : Program) → IsTextOf text.now other → p ≡ other) }
     ensures fault { IfErr result (λ fault. IsFault text.now fault) }
     ensures first { IfErr result (λ fault. fault ≢ ProgramFault.Memory → (other : ProgramFault) → other ≢ ProgramFault.Memory → HasFault text.now other → fault ≡ other) }
@@ -76,6 +88,7 @@ pub fn program_of(alloc: Global, text: &[u8]) -> Result<Program, ProgramFault>
         Ok(raw) => raw,
         Err(fault) => return Err(of_tree(fault)),
     };
+    bytes_are_small(text);
     match typed(alloc, &raw) {
         Ok(program) => Ok(program),
         Err(fault) => Err(of_types(fault)),

@@ -1,4 +1,4 @@
 pub mod SoundLevels
 pub mod CallLevels
 pub mod CountLevels
-pub mod CountEnds
+pub mod NameLevels

@@ -14,7 +14,7 @@ use Rattle.c_tree.specs.declared.tree.BlockItem.{BlockItem, out-BlockItem}
 use Rattle.c_tree.specs.declared.tree.BlockItem.TheOpen.{StmtKind-F, BlockItem-F}
 use Rattle.c_tree.specs.declared.tree.BlockItem.TheFolds.{map-StmtKind, map-BlockItem, fold-StmtKind, fold_out-StmtKind, fold_out-Stmt, fold_out-Group, fold_out-BlockItem}
 use Rattle.c_tree.specs.declared.tree.StmtKind.{StmtKind, out-StmtKind}
-use Rattle.sound_programs.specs.Sound.{Typing, typing, typing_by, own_typing, known, stmt_by, stmt_fits, parts_fit, item_by, item_fits, item_parts_fit, group_by, group_fits, own_stmt, labels_fit, all_hold}
+use Rattle.sound_programs.specs.Sound.{Typing, typing, typing_by, own_typing, known, stmt_by, stmt_fits, parts_fit, item_by, item_fits, item_parts_fit, group_by, group_fits, own_stmt, is_labelled, labels_fit, all_hold}
 
 -- ---- expressions
 
@@ -78,6 +78,6 @@ pub item_level : (p : Program) (r : Option Ty) (b : BlockItem) → item_by p (it
 unfolding stmt_fits item_fits group_fits kind_fits
 item_level p r b = sym (mapped_item p r (out-BlockItem b)) ∙ sym (fold_out-BlockItem Bool Bool Bool Bool (item_by p) (stmt_by p r) group_by own_stmt b)
 
-pub group_level : (p : Program) (r : Option Ty) (g : Group) → (labels_fit g.labels && all_hold (map (item_fits p r) g.items)) ≡ group_fits p r g
+pub group_level : (p : Program) (r : Option Ty) (g : Group) → (is_labelled g.labels && (labels_fit g.labels && all_hold (map (item_fits p r) g.items))) ≡ group_fits p r g
 unfolding item_fits group_fits
 group_level p r g = sym (fold_out-Group Bool Bool Bool Bool (item_by p) (stmt_by p r) group_by own_stmt g)

@@ -4,3 +4,5 @@ pub mod Counted
 pub mod Calls
 -- and of a whole program
 pub mod SoundPrograms
+-- names, jumps and labels
+pub mod Scoped

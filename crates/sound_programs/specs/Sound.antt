@@ -295,8 +295,13 @@ stmt_by p r (StmtKind-F.Do body c) = body && has_value (typing p c)
 stmt_by p r (StmtKind-F.For f c step body) = first_fits p f && (tests p c && (step_fits p step && body))
 stmt_by p r (StmtKind-F.Switch e groups) = has_promoted (typing p e) && all_hold groups
 
+-- a group begins with a label
+abbrev pub is_labelled : List Label → Bool
+is_labelled [] = false
+is_labelled (_ ∷ _) = true
+
 abbrev pub group_by : Group-F Bool Bool Bool Bool → Bool
-group_by g = labels_fit g.labels && all_hold g.items
+group_by g = is_labelled g.labels && (labels_fit g.labels && all_hold g.items)
 
 abbrev pub own_stmt : Stmt-F Bool Bool Bool Bool → Bool
 own_stmt s = s.kind
@@ -349,9 +354,13 @@ abbrev pub length_fits : Option ℕ → Bool
 length_fits None = true
 length_fits (Some n) = nat_le 1 n && nat_le n 1024
 
+abbrev pub words_fit : List ℕ → Bool
+words_fit [] = true
+words_fit (w ∷ ws) = nat_lt w (2 ^ 16) && words_fit ws
+
 -- only an object of the file has first words, and no more than elements
 abbrev pub first_words_fit : Variable → Bool
-first_words_fit v = if v.global then nat_le (length v.first) (capacity v.length) else nat_le (length v.first) 0
+first_words_fit v = if v.global then nat_le (length v.first) (capacity v.length) && words_fit v.first else nat_le (length v.first) 0
 
 abbrev pub variables_fit : List Variable → Bool
 variables_fit [] = true

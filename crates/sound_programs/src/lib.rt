@@ -1,12 +1,2 @@
-//! Which typed programs are sound: what every later step takes for granted of them.
+//! Which typed programs are sound: what every later step takes for granted of them. Definitions and lemmas alone; there is no code.
 #![tactic(auto)]
-
-mod counting;
-mod descents;
-mod fitting;
-mod lists;
-mod sound;
-mod typings;
-mod values;
-
-pub use sound::is_sound;

@@ -13,7 +13,7 @@ use Rattle.c_tree.specs.declared.tree.BlockItem.{BlockItem, out-BlockItem}
 use Rattle.c_tree.specs.declared.tree.BlockItem.TheOpen.{StmtKind-F, BlockItem-F}
 use Rattle.c_tree.specs.declared.tree.BlockItem.TheFolds.{map-StmtKind, map-BlockItem, fold-StmtKind, fold_out-StmtKind, fold_out-Stmt, fold_out-Group, fold_out-BlockItem}
 use Rattle.c_tree.specs.declared.tree.StmtKind.{StmtKind, out-StmtKind}
-use Rattle.accepted_programs.specs.Scoped.{Scope, names, names_by, own_names, Scoped, ScopedGroup, scoped, scoped_item, scoped_group, item_by, kind_by, group_by, own_stmt, locals, item_locals, group_locals, stmt_numbers_by, item_numbers_by, group_numbers_by, own_numbers, joined}
+use Rattle.sound_programs.specs.Scoped.{Scope, names, names_by, own_names, Scoped, ScopedGroup, scoped, scoped_item, scoped_group, item_by, kind_by, group_by, own_stmt, locals, item_locals, group_locals, stmt_numbers_by, item_numbers_by, group_numbers_by, own_numbers, joined}
 
 -- ---- expressions
 
