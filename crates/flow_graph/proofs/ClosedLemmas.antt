@@ -54,7 +54,7 @@ node_at g i x places e =
     subst (λ ns. node_in ns i ≡ Some x.node) (nodes-owned_from 0 g.functions)
     (subst (λ n. node_in (nodes (operations g)) n ≡ Some x.node) (zero-add i) (found_at (operations g) 0 (λ k y d. places k y d ∙ sym (zero-add k)) i x e))
 
-node_of : (xs : List Owned) (k : ℕ) (x : Owned) → slice_get xs k ≡ Some x → slice_get (nodes xs) k ≡ Some x.node
+pub node_of : (xs : List Owned) (k : ℕ) (x : Owned) → slice_get xs k ≡ Some x → slice_get (nodes xs) k ≡ Some x.node
 node_of [] k x e = let lt = slice_get_within [] k x e in absurd (omega arith)
 node_of (y ∷ ys) zero x e = ap (option_map (λ (z : Owned). z.node)) e
 node_of (y ∷ ys) (suc k) x e = node_of ys k x e
@@ -185,6 +185,7 @@ module _ (g : Graph) (rules : IsGraph g) where
     begins = entered g.main rules.main;
     stays = λ i x at. (good_at i x at).stays;
     enters = λ i x f n at e. entered f (rules.calls x.function f ((good_at i x at).calls f n e)).0;
+    calls = λ i x f n at e. (good_at i x at).calls f n e;
     returns = λ i x at e same. eqb-false x.function g.main ((good_at i x at).returns e) same;
     kinds = λ i x at. (good_at i x at).by_kind;
     fits = λ i x at. rules.operations i x.node (subst (λ ns. slice_get ns i ≡ Some x.node) (nodes-owned_from 0 g.functions) (node_of (operations g) i x at));

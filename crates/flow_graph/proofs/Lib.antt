@@ -12,5 +12,9 @@ pub mod ObjectLemmas
 pub mod PartLemmas
 -- where control goes
 pub mod ClosedLemmas
+-- where control falls on
+pub mod FallLemmas
 -- where a run may stand
 pub mod StandLemmas
+-- what comes of a run
+pub mod ResultLemmas

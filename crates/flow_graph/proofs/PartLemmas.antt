@@ -23,15 +23,15 @@ use Rattle.flow_graph.proofs.ListLemmas.{Stood, stood_first, stood_behind, stood
 
 -- ---- kinds
 
-is_go : (k : OpKind) → is_kind k kind.Go ≡ true → k ≡ kind.Go
+pub is_go : (k : OpKind) → is_kind k kind.Go ≡ true → k ≡ kind.Go
 is_go kind.Go e = refl
 is_go _ e = absurd (false≢true e)
 
-is_return : (k : OpKind) → is_kind k kind.Ret ≡ true → k ≡ kind.Ret
+pub is_return : (k : OpKind) → is_kind k kind.Ret ≡ true → k ≡ kind.Ret
 is_return kind.Ret e = refl
 is_return _ e = absurd (false≢true e)
 
-is_finish : (k : OpKind) → is_kind k kind.Finish ≡ true → k ≡ kind.Finish
+pub is_finish : (k : OpKind) → is_kind k kind.Finish ≡ true → k ≡ kind.Finish
 is_finish kind.Finish e = refl
 is_finish _ e = absurd (false≢true e)
 
@@ -110,7 +110,7 @@ branch_parts w test a b f =
     let q = and_parts (has_none b || ends_in_go a) (list_fits w MayGo None a && list_fits w Open None b) p.1 in
     let r = and_parts (list_fits w MayGo None a) (list_fits w Open None b) q.1 in (p.0, r.0, r.1)
 
-plain_parts : (w : Where) (before : Option Op) (pre : List Fitting) (test : Op) (post step : List Fitting) (back : Op) → loop_fits w before pre test post step back None ≡ true
+pub plain_parts : (w : Where) (before : Option Op) (pre : List Fitting) (test : Op) (post step : List Fitting) (back : Op) → loop_fits w before pre test post step back None ≡ true
     → (is_kind back.kind kind.Go ≡ true) × (is_kind test.kind kind.Test ≡ true) × (list_fits (where_in_loop w None) Open None pre ≡ true) × (list_fits (where_in_loop w None) Open None post ≡ true) × (list_fits (where_in_loop w None) Open None step ≡ true)
 plain_parts w before pre test post step back f =
     let in' = where_in_loop w None in
@@ -123,14 +123,14 @@ plain_parts w before pre test post step back f =
     let s = and_parts y z r.1 in (p.0, q.0, r.0, s.0, s.1)
 
 -- the one step of a loop that counts
-record OneStep (step : List Fitting) : Type 0 where
-  only : Fitting
-  op : Op
-  is_only : step ≡ only ∷ []
-  is_alone : only.alone ≡ Some op
-  steps : is_kind op.kind kind.Step ≡ true
+pub record OneStep (step : List Fitting) : Type 0 where
+  pub only : Fitting
+  pub op : Op
+  pub is_only : step ≡ only ∷ []
+  pub is_alone : only.alone ≡ Some op
+  pub steps : is_kind op.kind kind.Step ≡ true
 
-one_step : (step : List Fitting) (i : ℕ) → counts_up step i ≡ true → OneStep step
+pub one_step : (step : List Fitting) (i : ℕ) → counts_up step i ≡ true → OneStep step
 one_step [] i f = absurd (false≢true f)
 one_step (x ∷ []) i f = by_alone x.alone refl f
   where
@@ -144,7 +144,7 @@ by_operands step before c (Object i) (Const b) f = one_step step i (and_parts _ 
 by_operands step before c (Object i) (Object b) f = absurd (false≢true f)
 by_operands step before c (Const a) b f = absurd (false≢true f)
 
-counted_parts : (w : Where) (before : Option Op) (pre : List Fitting) (test : Op) (post step : List Fitting) (back : Op) (c : ℕ) → loop_fits w before pre test post step back (Some c) ≡ true
+pub counted_parts : (w : Where) (before : Option Op) (pre : List Fitting) (test : Op) (post step : List Fitting) (back : Op) (c : ℕ) → loop_fits w before pre test post step back (Some c) ≡ true
     → (is_kind back.kind kind.Go ≡ true) × (is_kind test.kind kind.Below ≡ true) × (has_none pre ≡ true) × OneStep step × (list_fits (where_in_loop w (Some c)) Open None post ≡ true)
 counted_parts w before pre test post step back c f =
     let y = list_fits (where_in_loop w (Some c)) Open None post in
@@ -159,6 +159,16 @@ abbrev pub NeedsBehind : Ending → Type 0
 NeedsBehind Open = ⊤
 NeedsBehind MayGo = ⊤
 NeedsBehind Returns = ⊥
+
+-- ---- an item by its layer
+
+pub laid_rolled : (x : Item-F Item) → laid (roll-Item x) ≡ laid_by (map-Item Item Laid laid x)
+unfolding laid
+laid_rolled x = fold-roll-Item Laid laid_by x
+
+pub fitting_rolled : (x : Item-F Item) → fitting (roll-Item x) ≡ fitting_by (map-Item Item Fitting fitting x)
+unfolding fitting
+fitting_rolled x = fold-roll-Item Fitting fitting_by x
 
 -- ---- parts of a function, whose operations have these numbers and which calls these functions
 
@@ -511,14 +521,6 @@ module _ (In : ℕ → Type 0) (Calls : ℕ → Type 0) where
   good_layer (Item-F.Switch items) = good_switch (map laid (bare items)) (map fitting (bare items)) (doing_all (map doing (bare items))) (good_list items)
   good_layer (Item-F.CallTo op f) = good_call_to op f
   good_layer (Item-F.Leave op to) = good_leave op to
-
-  laid_rolled : (x : Item-F Item) → laid (roll-Item x) ≡ laid_by (map-Item Item Laid laid x)
-  unfolding laid
-  laid_rolled x = fold-roll-Item Laid laid_by x
-
-  fitting_rolled : (x : Item-F Item) → fitting (roll-Item x) ≡ fitting_by (map-Item Item Fitting fitting x)
-  unfolding fitting
-  fitting_rolled x = fold-roll-Item Fitting fitting_by x
 
   doing_rolled : (x : Item-F Item) → doing (roll-Item x) ≡ doing_by (map-Item Item Doing doing x)
   unfolding doing

@@ -212,7 +212,7 @@ chosen : (y : Node) (ys : List Node) (x : Node) (b : Bool) (r : Option Node) →
 chosen y ys x true r rest e = record { place = 0; is_there = e }
 chosen y ys x false r rest e = stood_behind y ys x (rest e)
 
-found_in : (xs : List Node) (n : ℕ) (x : Node) → node_in xs n ≡ Some x → Stood xs x
+pub found_in : (xs : List Node) (n : ℕ) (x : Node) → node_in xs n ≡ Some x → Stood xs x
 found_in [] n x e = absurd (cc)
 found_in (y ∷ ys) n x e = chosen y ys x (y.op.number == n) (node_in ys n) (found_in ys n x) e
 

@@ -1,5 +1,5 @@
 -- Where control goes in a graph that obeys the rules, and where a run of it may stand. All of it follows from the rules.
-use Rattle.std.specs.Prelude.{ℕ, ◌≡◌, ◌≢◌, ◌⊎◌, Bool, true, false, Some, List, [], ◌∷◌, length, slice_get}
+use Rattle.std.specs.Prelude.{ℕ, ◌≡◌, ◌≢◌, ◌⊎◌, ⊤, Bool, true, false, Some, List, [], ◌∷◌, length, slice_get, Contains}
 use Rattle.flow_graph.specs.declared.graph.OpKind.{OpKind}
 use Rattle.flow_graph.specs.declared.graph.OpKind.TheVariants as kind
 use Rattle.flow_graph.specs.declared.graph.Object.{Object}
@@ -11,7 +11,7 @@ use Rattle.flow_graph.specs.Nodes.{entry}
 use Rattle.flow_graph.specs.Operations.{Words, words_of}
 use Rattle.flow_graph.specs.Flow.{Spot}
 use Rattle.flow_graph.specs.Owned.{IsAt, IsBehindCall, IsIn, operations}
-use Rattle.flow_graph.specs.Rules.{OpFits}
+use Rattle.flow_graph.specs.Rules.{OpFits, doing_in}
 
 -- each operation's number is its place
 abbrev pub ArePlaces : Graph → Type 0
@@ -47,12 +47,25 @@ IsNextOf k (Into f n) = k ≡ kind.Call
 IsNextOf k Returns = k ≡ kind.Ret
 IsNextOf k Ends = k ≡ kind.Finish
 
--- Control stays in its function but for calls, which go to a function's own first operation, and returns, which `main` has none of.
+-- what stands behind an operation that goes on, is passed or calls is what follows it: a Go alone jumps, and a test that isn't passed
+abbrev pub IsOnward : OpKind → ℕ → ℕ → Type 0
+IsOnward kind.Go m n = ⊤
+IsOnward k m n = m ≡ n
+
+abbrev pub FallsTo : OpKind → Next → ℕ → Type 0
+FallsTo k (To m) n = IsOnward k m n
+FallsTo k (Either m failed) n = m ≡ n
+FallsTo k (Into f m) n = m ≡ n
+FallsTo k Returns n = ⊤
+FallsTo k Ends n = ⊤
+
+-- Control stays in its function but for calls, each to the first operation of a function that this one calls, and returns, which `main` has none of.
 pub record IsClosed (g : Graph) : Type 0 where
   pub places : ArePlaces g
   pub begins : IsIn g (entry g g.main) g.main
   pub stays : (i : ℕ) (x : Owned) → IsAt (operations g) i x → (j : ℕ) → Stays x.node.next j → IsIn g j x.function
   pub enters : (i : ℕ) (x : Owned) (f n : ℕ) → IsAt (operations g) i x → x.node.next ≡ Into f n → IsIn g (entry g f) f
+  pub calls : (i : ℕ) (x : Owned) (f n : ℕ) → IsAt (operations g) i x → x.node.next ≡ Into f n → Contains (doing_in (slice_get g.functions x.function)).calls f
   pub returns : (i : ℕ) (x : Owned) → IsAt (operations g) i x → x.node.next ≡ Returns → x.function ≢ g.main
   pub kinds : (i : ℕ) (x : Owned) → IsAt (operations g) i x → IsNextOf x.node.op.kind x.node.next
   pub fits : (i : ℕ) (x : Owned) → IsAt (operations g) i x → OpFits g x.node.op

@@ -1,5 +1,5 @@
 -- What the rules of every graph are enough for.
-use Rattle.std.specs.Prelude.{ℕ, ◌≡◌, ◌≢◌, ◌<◌, ◌≤◌, ⊤, Option, Some, None, List, length}
+use Rattle.std.specs.Prelude.{ℕ, ◌≡◌, ◌≢◌, ◌+◌, ◌<◌, ◌≤◌, ⊤, Option, Some, None, List, length}
 use Rattle.flow_graph.specs.declared.graph.ArrayUse.{ArrayUse}
 use Rattle.flow_graph.specs.declared.graph.Op.{Op}
 use Rattle.flow_graph.specs.declared.graph.Graph.{Graph}
@@ -8,7 +8,10 @@ use Rattle.flow_graph.specs.Nodes.{graph_nodes, node_in}
 use Rattle.flow_graph.specs.Operations.{Words, words_of}
 use Rattle.flow_graph.specs.Flow.{Begin, Lost, Spot, flow_from, operate, start, told_at}
 use Rattle.flow_graph.specs.Rules.{IsGraph}
-use Rattle.flow_graph.specs.Closed.{IsClosed, Stands}
+use Rattle.flow_graph.specs.declared.owned.Owned.{Owned}
+use Rattle.flow_graph.specs.Owned.{IsAt, operations}
+use Rattle.flow_graph.specs.Closed.{FallsTo, IsClosed, Stands}
+use Rattle.flow_graph.specs.Results.{Results}
 
 -- what is written lies within an object, of so many words each
 abbrev pub DestWithin : Words → Option ℕ → Type 0
@@ -34,6 +37,10 @@ NeverLost g objects input = (n : ℕ) (ws : List ℕ) (s : Spot) → flow_from g
 abbrev pub GraphsAreClosed : Type 0
 GraphsAreClosed = (g : Graph) → IsGraph g → IsClosed g
 
+-- code in the order of the numbers needs no jump from an operation to the one behind it
+abbrev pub OperationsFallOn : Type 0
+OperationsFallOn = (g : Graph) → IsGraph g → (i : ℕ) (x : Owned) → IsAt (operations g) i x → FallsTo x.node.op.kind x.node.next (i + 1)
+
 -- wherever a run stands after some operations
 abbrev pub RunsStand : Type 0
 RunsStand = (g : Graph) (objects : Words) (input : List ℕ) → IsGraph g → Begin g.objects objects
@@ -44,3 +51,6 @@ NothingIsMissing = (g : Graph) (objects : Words) (input : List ℕ) → IsGraph 
 
 abbrev pub WritesAreWithin : Type 0
 WritesAreWithin = (g : Graph) (objects : Words) → IsGraph g → Begin g.objects objects → AllWritesFit g objects
+
+abbrev pub RunsHaveResults : Type 0
+RunsHaveResults = (g : Graph) (objects : Words) (input : List ℕ) → IsGraph g → Begin g.objects objects → Results g objects input

@@ -10,6 +10,8 @@ pub mod Rules
 pub mod Owned
 -- where control goes, and where a run may stand
 pub mod Closed
+-- what comes of a run
+pub mod Results
 -- what the rules are enough for
 pub mod Laws
 -- what the functions that list them promise each other

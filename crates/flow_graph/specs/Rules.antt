@@ -180,13 +180,13 @@ list_fits w e before [] = not_returning e
 list_fits w e before (x ∷ []) = x.fits w e before
 list_fits w e before (x ∷ y ∷ rest) = x.fits w Open before && list_fits w e x.alone (y ∷ rest)
 
+abbrev pub is_go_alone : Option Op → Bool
+is_go_alone None = false
+is_go_alone (Some op) = is_kind op.kind kind.Go
+
 abbrev pub ends_in_go : List Fitting → Bool
 ends_in_go [] = false
-ends_in_go (x ∷ []) = is_go x.alone
-  where
-    is_go : Option Op → Bool
-    is_go None = false
-    is_go (Some op) = is_kind op.kind kind.Go
+ends_in_go (x ∷ []) = is_go_alone x.alone
 ends_in_go (x ∷ y ∷ rest) = ends_in_go (y ∷ rest)
 
 abbrev pub has_none : {A : Type 0} → List A → Bool
