@@ -7,7 +7,7 @@ use Rattle.straight_programs.specs.declared.program.Statement.TheVariants.{Decla
 use Rattle.msp430_isa.specs.Encoding.{words_of}
 use Rattle.msp430_machine.proofs.Examples.{ordinary}
 use Rattle.power_core.proofs.Examples as device
-use Rattle.emit_layout.specs.Need.{wake_cost, sleep_cost}
+use Rattle.resumed_runs.specs.Need.{wake_cost, sleep_cost}
 use Rattle.emit_layout.specs.Operations.{Constant, Object, Copy, Add, Input, Output, operations_of, objects_of, straight_code}
 use Rattle.emit_layout.specs.Straight.{straight_need}
 

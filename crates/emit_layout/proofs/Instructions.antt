@@ -1,42 +1,18 @@
--- The instructions of the code, one by one: what they do, put and cost.
-use Rattle.std.proofs.Common.{◌≡◌, ℕ, ◌<◌, ◌≤◌, true, false, List, None, refl, ap, arith, pos}
-use Rattle.std.specs.Prelude.{nat_lt, if◌then◌else◌, Bool, not, ◌&&◌}
+-- The instructions that load and put a constant, and end: what they do, put and cost.
+use Rattle.std.proofs.Common.{◌≡◌, ℕ, ◌<◌, ◌≤◌, true, false, List, None, refl, ap, arith}
+use Rattle.std.specs.Prelude.{nat_lt, if◌then◌else◌, Bool, ◌&&◌}
 use Rattle.std.proofs.lemmas.Bool.Decides.{nat_tests}
 use Rattle.board_table.specs.declared.board.Board.{Board}
-use Rattle.msp430_isa.specs.declared.instr.Src.TheVariants.{Reg as FromReg, Abs as FromAbs, Imm, Short}
+use Rattle.msp430_isa.specs.declared.instr.Src.TheVariants.{Reg as FromReg, Imm, Short}
 use Rattle.msp430_isa.specs.declared.instr.Dst.TheVariants.{Reg as ToReg, Abs as ToAbs}
-use Rattle.msp430_isa.specs.declared.instr.TwoOp.TheVariants.{Cmp as CMP}
-use Rattle.msp430_isa.specs.declared.instr.Cond.TheVariants.{Jne as JNE}
 use Rattle.msp430_isa.specs.declared.instr.Instr.{Instr}
-use Rattle.msp430_isa.specs.declared.instr.Instr.TheVariants.{Two, Jump}
 use Rattle.msp430_isa.specs.Encoding.{length_of}
 use Rattle.msp430_isa.specs.Profile.{is_constant, in_profile}
-use Rattle.msp430_isa.specs.Results.{jump_target}
 use Rattle.msp430_machine.specs.State.{State, set_at}
 use Rattle.msp430_machine.specs.Access.{access_fault}
 use Rattle.msp430_machine.specs.Cost.{cost, any_state}
-use Rattle.msp430_machine.specs.Execution.{done, put_by, gone_to}
-use Rattle.emit_layout.specs.Code.{move, constant}
-
--- boot
-abbrev pub tests : Instr
-tests = Two CMP false (Short 1) (ToAbs 0x1800)
-
-abbrev pub jumps : Instr
-jumps = Jump JNE (pos 4)
-
-abbrev pub stacks : Instr
-stacks = move (FromAbs 0x1804) (ToReg 1)
-
-abbrev pub resumes : Instr
-resumes = move (FromAbs 0x1802) (ToReg 0)
-
-abbrev pub traps : Instr
-traps = move (Short 4) (ToAbs 0x0F06)
-
--- the last of the head
-abbrev pub closes : Instr
-closes = move (Short 0) (ToAbs 0x1800)
+use Rattle.msp430_machine.specs.Execution.{done, put_by}
+use Rattle.resumed_runs.specs.Code.{move, constant}
 
 -- an output, and the end
 abbrev pub loads : ℕ → Instr
@@ -47,14 +23,6 @@ puts = move (FromReg 15) (ToAbs 0x0F02)
 
 abbrev pub ends : Instr
 ends = move (FromReg 15) (ToAbs 0x0F04)
-
--- ---- The jump
-
-pub passes : (input : List ℕ) (s : State) → s.flags.zero_flag ≡ true → done input jumps s ≡ s
-passes input s zero = ap (λ z. if not z then gone_to s (jump_target (s.reg 0) (pos 4)) else s) zero
-
-pub goes_on : (input : List ℕ) (s : State) → s.flags.zero_flag ≡ false → done input jumps s ≡ gone_to s (jump_target (s.reg 0) (pos 4))
-goes_on input s zero = ap (λ z. if not z then gone_to s (jump_target (s.reg 0) (pos 4)) else s) zero
 
 -- ---- The load of a constant, of either kind
 

@@ -1,7 +1,5 @@
 pub mod LayoutLemmas
-pub mod WordBytes
 pub mod Instructions
-pub mod Dead
 pub mod Performing
 pub mod Operands
 pub mod Templates

@@ -14,9 +14,11 @@ use Rattle.power_core.specs.Runs.{Event, Go, Wake, Trail, start, after_wake, Run
 use Rattle.power_core.proofs.Covers.{Covers, covers_none, covers_off_more, covers_ran, covers_stopped, ran, cut, gone_cut, run_keeps, cut_closed, run_go, run_wake, generous_back}
 use Rattle.power_core.proofs.Points.{Rich, Setting, At, Goes, onto, covers_at, rich_before}
 use Rattle.power_core.proofs.Stands.{WordsAt, words_front, next_is}
-use Rattle.emit_layout.specs.Code.{boot, head, first_resume, finish}
-use Rattle.emit_layout.proofs.Instructions.{tests, jumps, stacks, resumes, closes, ends, passes}
-use Rattle.emit_layout.proofs.Dead.{Dead, dead_stays}
+use Rattle.resumed_runs.specs.Code.{boot, head, first_resume}
+use Rattle.emit_layout.specs.Code.{finish}
+use Rattle.resumed_runs.proofs.Instructions.{tests, jumps, stacks, resumes, closes, passes}
+use Rattle.emit_layout.proofs.Instructions.{ends}
+use Rattle.resumed_runs.proofs.Dead.{Dead, dead_stays}
 use Rattle.emit_layout.proofs.Performing.{Store}
 use Rattle.emit_layout.proofs.Operands.{loads_to}
 use Rattle.emit_layout.proofs.Templates.{Stand, spends, place, Base, load_covers}

@@ -1,6 +1,6 @@
 -- Instructions that load an operand, store a word in an object, take an input word, or add: what they do, put and cost.
-use Rattle.std.proofs.Common.{◌≡◌, ℕ, ◌/◌, ◌%◌, ◌<◌, true, false, List, Some, None, refl, ap, ◌∙◌, arith}
-use Rattle.std.specs.Prelude.{◌==◌, nat_lt, if◌then◌else◌, Bool, ◌&&◌, All, IsTrue}
+use Rattle.std.proofs.Common.{◌≡◌, ℕ, ◌/◌, ◌<◌, true, false, List, None, refl, ap, ◌∙◌, arith}
+use Rattle.std.specs.Prelude.{nat_lt, if◌then◌else◌, Bool, ◌&&◌, All, IsTrue}
 use Rattle.std.proofs.lemmas.List.Elements.{All-from_recursion}
 use Rattle.board_table.specs.declared.board.Board.{Board}
 use Rattle.msp430_isa.specs.declared.instr.Src.TheVariants.{Reg as FromReg, Abs as FromAbs, Imm, Short}
@@ -18,7 +18,7 @@ use Rattle.msp430_machine.specs.Cost.{cost, any_state}
 use Rattle.msp430_machine.specs.Execution.{done, put_by}
 use Rattle.msp430_machine.proofs.Memories.{IsAt, is_fram, is_word, word_allowed, read_at, after_read_at, puts_none_at}
 use Rattle.msp430_machine.proofs.Writes.{word_by, written_in_fram}
-use Rattle.emit_layout.specs.Code.{move}
+use Rattle.resumed_runs.specs.Code.{move}
 use Rattle.emit_layout.specs.Operations.{Operand, Constant, Object, Operation, Copy, Add, Input, Output, OperationFits, template, address_of, source_of, OperandFits}
 use Rattle.emit_layout.proofs.Performing.{word_of, operand_value}
 

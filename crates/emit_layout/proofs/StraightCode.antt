@@ -7,8 +7,9 @@ use Rattle.straight_programs.specs.declared.program.Statement.{Statement}
 use Rattle.straight_programs.specs.declared.program.Statement.TheVariants.{Declare, Assign, Put}
 use Rattle.straight_programs.specs.Statements.{statement_operations}
 use Rattle.msp430_isa.specs.Encoding.{words_of}
-use Rattle.emit_layout.specs.Code.{boot, head, finish, first_resume}
-use Rattle.emit_layout.specs.Layout.{bytes_in, bytes_of}
+use Rattle.resumed_runs.specs.Code.{boot, head, first_resume}
+use Rattle.emit_layout.specs.Code.{finish}
+use Rattle.resumed_runs.specs.Bytes.{bytes_in, bytes_of}
 use Rattle.emit_layout.specs.Operations.{Operation, Copy, Output, place_of, computed, operand_of, lowered, names_behind, declares, variables_of, computes, operations_of, straight_code, template}
 use Rattle.emit_layout.proofs.LayoutLemmas.{bytes_in-append}
 use Rattle.emit_layout.proofs.Lowered.{behind_counts}

@@ -15,8 +15,8 @@ use Rattle.msp430_isa.specs.declared.instr.TwoOp.TheVariants.{Mov as MOV}
 use Rattle.msp430_isa.specs.Encoding.{length_of}
 use Rattle.msp430_machine.specs.Cost.{two_class, read_cost_in, write_cost_in, destination_cost}
 use Rattle.msp430_machine.specs.Operands.{InRegister}
-use Rattle.emit_layout.specs.Code.{move}
-use Rattle.emit_layout.specs.Need.{cost_of}
+use Rattle.resumed_runs.specs.Code.{move}
+use Rattle.resumed_runs.specs.Need.{cost_of}
 use Rattle.emit_layout.specs.Operations.{Operand, Object, Operation, Copy, Add, Input, Output, OperandFits, OperationsFit, place_of, part_operand, computed, operand_of, temporary_behind, lowered, variables_of, operations_of, template}
 use Rattle.emit_layout.specs.Straight.{alone}
 use Rattle.emit_layout.proofs.Operands.{loads_to, stores, in_fram}

@@ -11,12 +11,13 @@ use Rattle.msp430_machine.specs.State.{Off, State, no_flags}
 use Rattle.msp430_machine.specs.First.{IsFirst, HoldsBlocks}
 use Rattle.straight_programs.specs.declared.program.Statement.{Statement}
 use Rattle.straight_programs.specs.Statements.{statement_operations}
-use Rattle.emit_layout.specs.Code.{boot, head, finish, first_resume}
+use Rattle.resumed_runs.specs.Code.{boot, head, first_resume}
+use Rattle.emit_layout.specs.Code.{finish}
 use Rattle.emit_layout.specs.Operations.{Operation, OperationsFit, operations_of, straight_code, template}
 use Rattle.emit_layout.specs.Straight.{straight_blocks}
 use Rattle.emit_layout.specs.StraightTheorem.{AreFewStatements, AreStraightHeld}
 use Rattle.power_core.proofs.Stands.{WordsAt}
-use Rattle.emit_layout.proofs.WordBytes.{bytes_from_words}
+use Rattle.resumed_runs.proofs.WordBytes.{bytes_from_words}
 use Rattle.emit_layout.proofs.Operands.{template_is}
 use Rattle.emit_layout.proofs.StraightRuns.{fit, words_few}
 

@@ -14,8 +14,9 @@ use Rattle.msp430_machine.specs.State.{set_at}
 use Rattle.power_core.specs.Runs.{Event, Trail}
 use Rattle.power_core.proofs.Covers.{Covers}
 use Rattle.power_core.proofs.Points.{Setting, At}
-use Rattle.emit_layout.specs.Code.{move, finish}
-use Rattle.emit_layout.specs.Need.{cost_of}
+use Rattle.resumed_runs.specs.Code.{move}
+use Rattle.emit_layout.specs.Code.{finish}
+use Rattle.resumed_runs.specs.Need.{cost_of}
 use Rattle.emit_layout.specs.Operations.{Operand, Constant, Object, Operation, Copy, Add, Input, Output, template, OperationsFit}
 use Rattle.emit_layout.proofs.Instructions.{ends, puts}
 use Rattle.emit_layout.proofs.Performing.{Store, word_of, performed}

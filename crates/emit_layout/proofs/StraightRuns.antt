@@ -12,11 +12,11 @@ use Rattle.power_core.specs.Runs.{Event, Trail, RunOf}
 use Rattle.power_core.proofs.Points.{Setting, At}
 use Rattle.power_core.proofs.Covers.{Covers}
 use Rattle.power_core.proofs.Stands.{WordsAt, words_back}
-use Rattle.emit_layout.specs.Layout.{bytes_of}
+use Rattle.resumed_runs.specs.Bytes.{bytes_of}
 use Rattle.emit_layout.specs.Operations.{operations_of, straight_code, variables_of, OperationsFit}
 use Rattle.emit_layout.specs.Straight.{straight_blocks, straight_need}
 use Rattle.emit_layout.specs.StraightTheorem.{AreFewStatements, StraightImagesAgree, StraightImagesEndure, AreStraightImages}
-use Rattle.emit_layout.proofs.WordBytes.{words_from_bytes}
+use Rattle.resumed_runs.proofs.WordBytes.{words_from_bytes}
 use Rattle.emit_layout.proofs.Templates.{stand}
 use Rattle.emit_layout.proofs.Stretches.{Meant, Fine, forth, back, power, steps, no_fault, quiet, trap_last}
 use Rattle.emit_layout.proofs.Opening.{Stands, words_with, has_boot, boot_cost, first_store, starts_fine}

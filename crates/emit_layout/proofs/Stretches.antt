@@ -12,8 +12,8 @@ use Rattle.power_core.specs.Enduring.{power_trap, IsCutInside, StaysQuiet}
 use Rattle.power_core.proofs.Covers.{cut, short_cut}
 use Rattle.power_core.proofs.Points.{Rich, Setting}
 use Rattle.power_core.proofs.Stands.{WordsAt}
-use Rattle.emit_layout.specs.Code.{boot}
-use Rattle.emit_layout.proofs.Dead.{Dead, dead_stays}
+use Rattle.resumed_runs.specs.Code.{boot}
+use Rattle.resumed_runs.proofs.Dead.{Dead, dead_stays}
 
 -- the program goes on for all its steps but the last, and then has ended with 0
 pub record Meant (program : Behaviour) (nodes : ℕ) (input : List ℕ) : Type 0 where

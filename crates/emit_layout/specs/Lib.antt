@@ -1,6 +1,4 @@
 pub mod Code
-pub mod Layout
-pub mod Need
 pub mod Operations
 pub mod Straight
 pub mod StraightTheorem

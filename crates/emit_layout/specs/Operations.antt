@@ -13,7 +13,8 @@ use Rattle.straight_programs.specs.declared.program.Expression.{Expression}
 use Rattle.straight_programs.specs.declared.program.Expression.TheVariants.{Number, Part as Plain, Input as Taken, Sum}
 use Rattle.straight_programs.specs.declared.program.Statement.{Statement}
 use Rattle.straight_programs.specs.declared.program.Statement.TheVariants.{Declare, Assign, Put}
-use Rattle.emit_layout.specs.Code.{move, constant, boot, head, finish, first_resume}
+use Rattle.resumed_runs.specs.Code.{move, constant, boot, head, first_resume}
+use Rattle.emit_layout.specs.Code.{finish}
 -- an operand: a constant, or an object by its number
 pub use Rattle.emit_layout.specs.declared.operation.Operand.{Operand}
 pub use Rattle.emit_layout.specs.declared.operation.Operand.TheVariants.{Constant, Object}

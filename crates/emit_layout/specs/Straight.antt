@@ -5,9 +5,10 @@ use Rattle.ti_txt.specs.Image.{Block}
 use Rattle.msp430_isa.specs.Encoding.{words_of}
 use Rattle.msp430_machine.specs.Addresses.{gate, code_start, reset_vector}
 use Rattle.straight_programs.specs.declared.program.Statement.{Statement}
-use Rattle.emit_layout.specs.Code.{finish, first_resume}
-use Rattle.emit_layout.specs.Layout.{bytes_of}
-use Rattle.emit_layout.specs.Need.{cost_of, wake_cost, sleep_cost}
+use Rattle.resumed_runs.specs.Code.{first_resume}
+use Rattle.emit_layout.specs.Code.{finish}
+use Rattle.resumed_runs.specs.Bytes.{bytes_of}
+use Rattle.resumed_runs.specs.Need.{cost_of, wake_cost, sleep_cost}
 use Rattle.emit_layout.specs.Operations.{lowered, operations_of, straight_code, template}
 
 -- GATE open, RESUME at the head, SAVED_SP at the end of the stack; the code; the word at which a cold wake begins. Variables have no

@@ -1,5 +1,5 @@
 ghost use Rattle.std.specs.Prelude.{◌≡◌, ◌++◌, OnOk};
-ghost use Rattle.emit_layout.specs.Layout.{bytes_of};
+ghost use Rattle.resumed_runs.specs.Bytes.{bytes_of};
 
 use base_io::Memory;
 

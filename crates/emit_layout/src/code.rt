@@ -1,8 +1,9 @@
 ghost use Rattle.std.specs.Prelude.{◌≡◌, ◌++◌, false, flat_map, All, IsTrue, OnOk};
 ghost use Rattle.msp430_isa.specs.Encoding.{words_of};
 ghost use Rattle.msp430_isa.specs.Profile.{in_profile};
-ghost use Rattle.emit_layout.specs.Code.{boot, constant, finish, head};
-ghost use Rattle.emit_layout.specs.Layout.{bytes_of};
+ghost use Rattle.resumed_runs.specs.Code.{boot, constant, head};
+ghost use Rattle.emit_layout.specs.Code.{finish};
+ghost use Rattle.resumed_runs.specs.Bytes.{bytes_of};
 
 use crate::bytes::put_words;
 use base_io::Memory;

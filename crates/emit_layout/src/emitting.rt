@@ -1,6 +1,6 @@
 ghost use Rattle.std.specs.Prelude.{◌≡◌, ◌++◌, ◌<◌, OnOk};
-ghost use Rattle.emit_layout.specs.Code.{move};
-ghost use Rattle.emit_layout.specs.Layout.{bytes_in};
+ghost use Rattle.resumed_runs.specs.Code.{move};
+ghost use Rattle.resumed_runs.specs.Bytes.{bytes_in};
 ghost use Rattle.emit_layout.specs.Operations.{OperandFits, OperationFits, address_of, source_of, template};
 
 use crate::code::{IN, OUT, constant, put_instructions, two};

@@ -1,7 +1,7 @@
 ghost use Rattle.std.specs.Prelude.{◌≡◌, ◌≤◌, ◌<◌, [], ◌∷◌, length, IfOk};
 ghost use Rattle.ti_txt.specs.Bytes.{blocks_of};
 ghost use Rattle.msp430_machine.specs.Addresses.{gate, code_start, reset_vector};
-ghost use Rattle.emit_layout.specs.Layout.{bytes_of};
+ghost use Rattle.resumed_runs.specs.Bytes.{bytes_of};
 
 use crate::bytes::put_words;
 use base_io::Memory;

@@ -1,7 +1,8 @@
 ghost use Rattle.std.specs.Prelude.{◌≡◌, ◌≤◌, [], ◌∷◌, false};
 ghost use Rattle.msp430_machine.specs.Cost.{instruction_cost};
-ghost use Rattle.emit_layout.specs.Code.{finish, move};
-ghost use Rattle.emit_layout.specs.Need.{cost_of, sleep_cost, wake_cost};
+ghost use Rattle.resumed_runs.specs.Code.{move};
+ghost use Rattle.emit_layout.specs.Code.{finish};
+ghost use Rattle.resumed_runs.specs.Need.{cost_of, sleep_cost, wake_cost};
 
 use crate::code::{END, GATE, RESUME, SAVED_SP, constant, two};
 use board_table::Board;

@@ -2,8 +2,9 @@ ghost use Rattle.std.specs.Prelude.{◌≡◌, ◌≤◌, ◌+◌, ◌*◌, ◌<
 ghost use Rattle.msp430_isa.specs.Encoding.{words_of};
 ghost use Rattle.straight_programs.specs.Statements.{statement_operations};
 ghost use Rattle.ti_txt.specs.Bytes.{blocks_of};
-ghost use Rattle.emit_layout.specs.Code.{boot, finish, first_resume, head};
-ghost use Rattle.emit_layout.specs.Layout.{bytes_in, bytes_of};
+ghost use Rattle.resumed_runs.specs.Code.{boot, first_resume, head};
+ghost use Rattle.emit_layout.specs.Code.{finish};
+ghost use Rattle.resumed_runs.specs.Bytes.{bytes_in, bytes_of};
 ghost use Rattle.emit_layout.specs.Operations.{OperandFits, computed, computes, declares, lowered, names_behind, objects_of, operand_of, operations_of, part_operand, place_of, straight_code, template, variables_of};
 ghost use Rattle.emit_layout.specs.Straight.{straight_blocks};
 

@@ -1,7 +1,7 @@
 ghost use Rattle.std.specs.Prelude.{◌≡◌, ◌≤◌, ◌+◌, ◌*◌, ◌<◌, [], ◌∷◌, length, drop, sum_by};
 ghost use Rattle.straight_programs.specs.Statements.{AreStatements, statement_operations};
-ghost use Rattle.emit_layout.specs.Code.{move};
-ghost use Rattle.emit_layout.specs.Need.{cost_of};
+ghost use Rattle.resumed_runs.specs.Code.{move};
+ghost use Rattle.resumed_runs.specs.Need.{cost_of};
 ghost use Rattle.emit_layout.specs.Operations.{OperandFits, OperationFits, address_of, computed, source_of, template};
 ghost use Rattle.emit_layout.specs.Straight.{alone, straight_need};
 

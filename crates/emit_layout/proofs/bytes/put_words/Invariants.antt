@@ -1,5 +1,5 @@
 use Rattle.std.proofs.Common.{◌≡◌, ◌++◌, length}
-use Rattle.emit_layout.specs.Layout.{bytes_of}
+use Rattle.resumed_runs.specs.Bytes.{bytes_of}
 use Rattle.emit_layout.proofs.bytes.put_words.Given as goal
 
 -- what is there and the words that are left make the whole

@@ -1,6 +1,6 @@
 use Rattle.std.proofs.Common.{◌≡◌, ◌++◌, flat_map, drop}
 use Rattle.msp430_isa.specs.Encoding.{words_of}
-use Rattle.emit_layout.specs.Layout.{bytes_of}
+use Rattle.resumed_runs.specs.Bytes.{bytes_of}
 use Rattle.emit_layout.proofs.code.put_instructions.Given as goal
 
 -- what is there and the instructions that are left make the whole

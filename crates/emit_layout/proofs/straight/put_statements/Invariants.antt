@@ -1,5 +1,5 @@
 use Rattle.std.proofs.Common.{◌≡◌, ◌+◌, ◌≤◌, ◌++◌, length, flat_map, sum_by}
-use Rattle.emit_layout.specs.Layout.{bytes_in}
+use Rattle.resumed_runs.specs.Bytes.{bytes_in}
 use Rattle.emit_layout.specs.Operations.{computes, lowered, operations_of, template, variables_of}
 use Rattle.emit_layout.proofs.straight.put_statements.Given as goal
 

@@ -8,7 +8,7 @@ use Rattle.msp430_machine.specs.State.{State}
 use Rattle.msp430_machine.specs.Memory.{word_in, word_at, byte_at}
 use Rattle.msp430_machine.specs.First.{HoldsBytes}
 use Rattle.power_core.proofs.Stands.{WordsAt}
-use Rattle.emit_layout.specs.Layout.{bytes_of}
+use Rattle.resumed_runs.specs.Bytes.{bytes_of}
 
 code_at : (a : ℕ) → 0x8000 ≤ a → region a ≡ Code
 code_at a low = grind (arith, nat_tests)

@@ -3,9 +3,9 @@ use Rattle.std.specs.Prelude.{ℕ, ◌+◌, sum_by, List, take, drop}
 use Rattle.board_table.specs.declared.board.Board.{Board}
 use Rattle.msp430_isa.specs.declared.instr.Instr.{Instr}
 use Rattle.msp430_machine.specs.Cost.{instruction_cost}
-use Rattle.emit_layout.specs.Code.{boot, head, first_resume}
+use Rattle.resumed_runs.specs.Code.{boot, head, first_resume}
 
--- No instruction of the code reads or writes by a register, so its cost is the same in each state.
+-- None of these instructions makes an address of a register, so each costs the same in every state.
 abbrev pub cost_of : Board → List Instr → ℕ
 cost_of b instructions = sum_by (λ i. instruction_cost b i) instructions
 

@@ -1,0 +1,2 @@
+-- a graph as a flow
+pub mod GraphFlow
