@@ -1,0 +1,4 @@
+pub mod Placed
+pub mod Effects
+pub mod Layer
+pub mod GraphEffects
