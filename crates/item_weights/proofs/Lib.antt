@@ -1,0 +1,5 @@
+pub mod WeightLevels
+pub mod Tallying
+pub mod ToldUses
+pub mod FlatNumbers
+pub mod Heights

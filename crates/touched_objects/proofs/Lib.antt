@@ -1,0 +1,2 @@
+-- paths of calls
+pub mod Reaching

@@ -1,0 +1,4 @@
+-- which objects a function touches
+pub mod Touched
+-- a table of them
+pub mod Tables

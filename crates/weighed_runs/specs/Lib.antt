@@ -1,0 +1,2 @@
+-- what a run through items costs
+pub mod Spending
