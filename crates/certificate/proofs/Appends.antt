@@ -16,7 +16,7 @@ parts_more p [] = sym (append-nil p)
 parts_more p (q ∷ parts) = ap (λ t. p ++ 44 ∷ t) (parts_more q parts)
 
 -- An Ok, and then another text.
-appends_more : {U E : Type 0} (a b : List ℕ) (r : Result U E) (old mid new : List ℕ) → mid ≡ old ++ a → Appends b r mid new → Appends (a ++ b) r old new
+pub appends_more : {U E : Type 0} (a b : List ℕ) (r : Result U E) (old mid new : List ℕ) → mid ≡ old ++ a → Appends b r mid new → Appends (a ++ b) r old new
 appends_more a b (Ok u) old mid new first second = second ∙ ap (λ m. m ++ b) first ∙ append_assoc old a b
 appends_more a b (Err e) old mid new first second = grown a old mid new first second
 

@@ -21,10 +21,10 @@ use Rattle.certificate.proofs.Order.{AllRows, certificate_leads, certificate_row
 use Rattle.certificate.proofs.Told.{Goes, Stops, ToldBy, before_itself, read_on, text_told}
 
 -- what is read of a whole text
-abbrev read_all : List ℕ → (List Line × Progress)
+abbrev pub read_all : List ℕ → (List Line × Progress)
 read_all text = read_text stage.Header 0 text
 
-abbrev behind_first : List ℕ → List ℕ
+abbrev pub behind_first : List ℕ → List ℕ
 behind_first more = first_line ++ 10 ∷ more
 
 first_lacks : Lacks 10 first_line
@@ -71,7 +71,7 @@ cut_cases text line behind e l = elim (cases_Bool (bytes_eq line first_line)) [
       other line behind e l none (ap read_all e ∙ other_read line behind l none)
 ]
 
-cases_of : (text : List ℕ) → Cases text
+pub cases_of : (text : List ℕ) → Cases text
 cases_of text = elim (apart 10 text) [
   | inl cut ↦ cut_cases text (before_mark 10 text) (after_mark 10 text) cut (before_itself 10 text)
   | inr all ↦
@@ -86,7 +86,7 @@ pub record HeldBy (text : List ℕ) (rows : List Line) : Type 0 where
   pub holds : Holds text whole
   pub list : rows ≡ rows_of whole
 
-rows_held : (rows : List Line) → AllRows rows → stages stage.Budget rows ≡ Some stage.Ended → HeldBy (fed_line first_line ++ rows_text rows) rows
+pub rows_held : (rows : List Line) → AllRows rows → stages stage.Budget rows ≡ Some stage.Ended → HeldBy (fed_line first_line ++ rows_text rows) rows
 rows_held rows all lead =
     let c = certificate_told rows lead all in
     record { whole = c.whole; holds = record { is = c.is; spelt = ap (λ r. fed_line first_line ++ rows_text r) c.list }; list = c.list }
@@ -100,7 +100,7 @@ ended_told more rows t line k h e n =
 stage_is : (s t : Stage) (a b : List ℕ) (k j : ℕ) → going s a k ≡ going t b j → (s ≡ t) × (a ≡ b) × (k ≡ j)
 stage_is s t a b k j e = (cc, cc, cc)
 
-not_both : {P : Type 0} (s : Stage) (a : List ℕ) (k j : ℕ) → stopped j ≡ going s a k → P
+pub not_both : {P : Type 0} (s : Stage) (a : List ℕ) (k j : ℕ) → stopped j ≡ going s a k → P
 not_both s a k j e = absurd (cc)
 
 by_progress : (more : List ℕ) (rows : List Line) (p : Progress) (k : ℕ) → ToldBy stage.Budget 17 more rows p → p ≡ going stage.Ended [] k → HeldBy (behind_first more) rows
@@ -121,7 +121,7 @@ reads_held text k e = elim (cases_of text) [
 
 -- ---- What begins a certificate's text
 
-flat_append : (a b : List Line) → rows_text (a ++ b) ≡ rows_text a ++ rows_text b
+pub flat_append : (a b : List Line) → rows_text (a ++ b) ≡ rows_text a ++ rows_text b
 flat_append [] b = refl
 flat_append (r ∷ a) b = ap (λ t. fed_line (row_text r) ++ t) (flat_append a b) ∙ sym (append_assoc (fed_line (row_text r)) (rows_text a) (rows_text b))
 

@@ -18,3 +18,7 @@ pub mod Feeds
 pub mod Appends
 pub mod Made
 pub mod Place
+pub mod FirstRows
+pub mod Written
+pub mod Unfinished
+pub mod Found

@@ -1,8 +1,8 @@
 //! Laws of the text.
 ghost use Rattle.std.specs.Prelude.{◌≡◌, ◌↔◌, ◌++◌, ℕ, List, None, Some};
-ghost use Rattle.certificate.specs.Grammar.{IsRow};
+ghost use Rattle.certificate.specs.Grammar.{IsCertificate, IsRow};
 ghost use Rattle.certificate.specs.Line.{Line, rows_of};
-ghost use Rattle.certificate.specs.Reading.{behind_rows, fault_at_end, fed, nothing_read, read_row};
+ghost use Rattle.certificate.specs.Reading.{IsGoing, behind_rows, fault_at_end, fed, nothing_read, read_row};
 ghost use Rattle.certificate.specs.Rows.{Certificate};
 ghost use Rattle.certificate.specs.Spelling.{row_text};
 ghost use Rattle.certificate.specs.Texts.{BadLineAt, Holds};
@@ -10,6 +10,13 @@ ghost use Rattle.certificate.specs.Texts.{BadLineAt, Holds};
 /// What is read of two pieces, one behind the other, is what is read of both at once.
 pub fn cut_anywhere()
     ensures { (front piece : List ℕ) → fed nothing_read (front ++ piece) ≡ behind_rows (fed nothing_read front).0 (fed (fed nothing_read front).1 piece) }
+{}
+
+/// The rows read so far are the first of the certificate that the whole text spells; and while no line was bad, they are
+/// the first of some certificate, so each of them stands in one.
+pub fn rows_so_far_are_first()
+    ensures whole { (front more : List ℕ) (c : Certificate) → Holds (front ++ more) c → (rest : List Line) × ((fed nothing_read front).0 ++ rest ≡ rows_of c) }
+    ensures some { (front : List ℕ) → IsGoing (fed nothing_read front).1 → (c : Certificate) × (rest : List Line) × IsCertificate c × ((fed nothing_read front).0 ++ rest ≡ rows_of c) }
 {}
 
 /// A line is read as a row exactly where it is the text of that row and the row stands in the grammar.

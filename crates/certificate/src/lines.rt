@@ -1,5 +1,6 @@
 //! Texts in pieces.
 ghost use Rattle.std.specs.Prelude.{◌≡◌, ◌≤◌, ◌<◌, ◌+◌, ◌==◌, ◌++◌, ◌^◌, [], ℕ, List, length, map, drop, option_to_list, option_map, IfOk, IfErr};
+ghost use Rattle.std.specs.List.{list_any};
 ghost use Rattle.certificate.specs.Fields.{Reads};
 ghost use Rattle.certificate.specs.Texts.{Lacks};
 ghost use Rattle.certificate.specs.Reading.{Ends, Feeds, GivesAll, GivesRows, HasRoom, TakesLine, fed, going, nothing_read, line_of_row, read_line, read_text};
@@ -68,6 +69,12 @@ fn take_lines<'a>(
     }
 }
 
+fn has_line_feed(text: &[u8]) -> bool
+    ensures { result ≡ list_any (λ b. b == 10) text.now }
+{
+    text.iter().any(|b| *b == b'\n')
+}
+
 #[derive(Drop)]
 struct Fed {
     rows: Vec<Row>,
@@ -111,10 +118,14 @@ pub struct Lines {
 
 impl Model for Lines {
     ghost use Rattle.certificate.specs.Reading.{Progress, progress_of};
+    ghost use Rattle.certificate.specs.Texts.{Lacks};
 
     ghost Value = { Progress };
 
     ghost view = { λ l. progress_of l.bad l.stage l.line.items l.at };
+
+    // What is unfinished is one line, so a piece is looked through for line feeds alone.
+    ghost invariant = { λ l. Lacks 10 l.line.items };
 }
 
 impl Lines {
@@ -153,6 +164,9 @@ impl Lines {
         if self.line.extend_from_slice(piece).is_err() {
             return Err(CertText::Memory);
         }
+        if !has_line_feed(piece) {
+            return Ok(Vec::new(self.alloc));
+        }
         match read_piece(self.alloc, self.stage, self.at, &self.line) {
             Ok(read) => {
                 self.stage = read.stage;
@@ -162,6 +176,7 @@ impl Lines {
             }
             Err(CertText::BadLine { at }) => {
                 self.bad = Some(at);
+                self.line.truncate(kept);
                 Err(CertText::BadLine { at })
             }
             Err(CertText::Memory) => {

@@ -99,37 +99,91 @@ fn same_slot(a: Slot, b: Slot) -> bool
     rank(a) == rank(b)
 }
 
-fn has_fact(facts: &[Fact], slot: Slot) -> bool
+// The first fact from a place on whose slot does not stand before this one.
+fn next_fact(facts: &[Fact], from: usize, slot: Slot) -> usize
+    ensures { from ≤ result }
+{
+    let mut at = from;
+    while at < facts.len() && rank(facts[at].of) < rank(slot) {
+        at += 1;
+    }
+    at
+}
+
+// Tries the fact at this place before it looks through all of them.
+fn has_fact(facts: &[Fact], at: usize, slot: Slot) -> bool
     ensures { result ≡ has_fact facts.now slot }
 {
+    if at < facts.len() && same_slot(facts[at].of, slot) {
+        return true;
+    }
     facts.iter().any(|f| same_slot(f.of, slot))
 }
 
+// Facts and terms ascend, so one walk along both finds the fact of each term. Only a term without one makes it look
+// through all facts, and then it ends.
 fn all_have_facts(facts: &[Fact], terms: &[Term]) -> bool
     ensures { result ≡ all_have_facts facts.now terms.now }
 {
-    terms.iter().all(|t| has_fact(facts, t.of))
+    let mut at = 0;
+    for term in terms {
+        at = next_fact(facts, at, term.of);
+        if !has_fact(facts, at, term.of) {
+            return false;
+        }
+    }
+    true
 }
 
-fn lies_in(spans: &[Span], address: u16) -> bool
+// The first span from a place on that does not end below this slot.
+fn next_span(spans: &[Span], from: usize, slot: Slot) -> usize
+    ensures { from ≤ result }
+{
+    let mut at = from;
+    while at < spans.len() && 16 + u32::from(spans[at].hi) < rank(slot) {
+        at += 1;
+    }
+    at
+}
+
+fn is_within(span: Span, address: u16) -> bool
+    ensures { result ≡ (nat_le span.lo address && nat_le address span.hi) }
+{
+    span.lo <= address && address <= span.hi
+}
+
+// Tries the span at this place before it looks through all of them.
+fn lies_in(spans: &[Span], at: usize, address: u16) -> bool
     ensures { result ≡ lies_in spans.now address }
 {
-    spans.iter().any(|s| s.lo <= address && address <= s.hi)
+    if at < spans.len() && is_within(spans[at], address) {
+        return true;
+    }
+    spans.iter().any(|s| is_within(*s, address))
 }
 
-fn is_fresh_slot(spans: &[Span], slot: Slot) -> bool
+fn is_fresh_slot(spans: &[Span], at: usize, slot: Slot) -> bool
     ensures { result ≡ is_fresh_slot spans.now slot }
 {
     match slot {
         Slot::Reg(_) => true,
-        Slot::Word(address) => !is_sram(address) || lies_in(spans, address),
+        Slot::Word(address) => !is_sram(address) || lies_in(spans, at, address),
     }
 }
 
+// Spans and facts ascend, so one walk along both finds the span of each fact. Only a fact that isn't fresh makes it look
+// through all spans, and then it ends.
 fn all_fresh(spans: &[Span], facts: &[Fact]) -> bool
     ensures { result ≡ all_fresh spans.now facts.now }
 {
-    facts.iter().all(|f| is_fresh_slot(spans, f.of))
+    let mut at = 0;
+    for fact in facts {
+        at = next_span(spans, at, fact.of);
+        if !is_fresh_slot(spans, at, fact.of) {
+            return false;
+        }
+    }
+    true
 }
 
 fn good_point(point: PointRow) -> Result<PointRow, Refusal>

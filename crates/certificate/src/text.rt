@@ -1,9 +1,11 @@
 //! Parts of lines: numbers, words, and what stands between marks.
 ghost use Rattle.std.specs.Prelude.{◌≡◌, ◌<◌, ◌≤◌, ◌+◌, ◌*◌, ◌-◌, ◌==◌, ◌∷◌, Some, None, IfNone, IfSome, length, nat_lt, if◌then◌else◌};
 ghost use Rattle.std.specs.Char.{digit_value};
-ghost use Rattle.std.specs.List.{position, position_or_len};
+ghost use Rattle.std.specs.List.{position_or_len};
 ghost use Rattle.certificate.specs.Fields.{after_mark, before_mark, decimal_digit, number_behind, number_of, longer_number, parts_behind, parts_of, upper_digit, word_of};
 ghost use Rattle.certificate.specs.Texts.{Lacks};
+
+use memchr::memchr;
 
 const MOST: u64 = 9_223_372_036_854_775_807;
 
@@ -84,19 +86,12 @@ pub fn word_of(digits: &[u8]) -> Option<u16>
     }
 }
 
-fn found_in(text: &[u8], mark: u8) -> Option<usize>
-    ensures at { result ≡ position (λ b. b == mark) text.now }
-    ensures within { IfSome result (λ at. at < length text.now) }
-{
-    text.iter().position(|b| *b == mark)
-}
-
 // How many bytes stand before the first mark, or in all.
 fn before(text: &[u8], mark: u8) -> usize
     ensures count { result ≡ position_or_len (λ b. b == mark) text.now }
     ensures within { result ≤ length text.now }
 {
-    match found_in(text, mark) {
+    match memchr(mark, text) {
         Some(at) => at,
         None => text.len(),
     }

@@ -1,0 +1,9 @@
+use Rattle.std.proofs.Common.{◌≡◌, ◌++◌, drop, List, ℕ, map}
+use Rattle.certificate.specs.Line.{point}
+use Rattle.certificate.specs.Rows.{point_of}
+use Rattle.certificate.specs.Spelling.{rows_text}
+use Rattle.certificate.proofs.writing.append_points.Given as goal
+
+-- what was appended, and what is left to append
+abbrev pub invariant-loop-row : goal.invariant-loop-row
+invariant-loop-row l = (done : List ℕ) × (l.to.items ≡ l.fn.to.items ++ done) × (done ++ rows_text (map point (map point_of (drop l.row-index l.points))) ≡ rows_text (map point (map point_of l.points)))
