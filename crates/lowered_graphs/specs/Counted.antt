@@ -139,7 +139,7 @@ steps_up x (Some (action.Update to at op ty by)) = (to.variable == x) && (is_non
 steps_up x (Some _) = false
 
 abbrev pub below_by : ℕ → Ty → ExprLayer → Option ℕ
-below_by x ty (ExprKind-F.Binary binary.Less a b) = if is_named x a then bound ty b else None
+below_by x ty (ExprKind-F.Binary binary.Less a b) = if is_named x a && nat_le (greatest ty) (greatest a.ty) then bound ty b else None
 below_by x ty _ = None
 
 abbrev pub below : ℕ → Ty → Option Expr → Option ℕ

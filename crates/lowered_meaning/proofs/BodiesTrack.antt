@@ -47,10 +47,6 @@ module _ (g : Graph) (whole : Ground) (base top : ℕ → ℕ) (most : ℕ) (Rea
   abbrev May : ℕ → ℕ → Type 0
   May f h = run.May g whole base top most Reached f h
 
-  -- the conversion in the test of a loop of a known number of turns holds the variable's numbers
-  abbrev pub Widens : Type 0
-  Widens = (o : Option ForFirst) (test : Option Expr) (step : Option Action) (count : Count) (h : Head p o test step count) → greatest h.variable.ty ≤ greatest h.left.ty
-
   -- what is known of a function that is reached
   pub record Known (f : ℕ) (fn : Function) (is_main : Bool) : Type 0 where
     pub grounded : Grounded (ground f)
@@ -120,9 +116,9 @@ module _ (g : Graph) (whole : Ground) (base top : ℕ → ℕ) (most : ℕ) (Rea
 
   -- ---- what bodies do
 
-  body_tracks : Widens → AllKnown → (f : ℕ) (fn : Function) (is_main : Bool) → Known f fn is_main → Covers (ground f) (run.inner g whole base top most Reached f) (fn.params ++ globals_from 0 p.variables)
+  body_tracks : AllKnown → (f : ℕ) (fn : Function) (is_main : Bool) → Known f fn is_main → Covers (ground f) (run.inner g whole base top most Reached f) (fn.params ++ globals_from 0 p.variables)
       → run.EachExpr g whole base top most Reached f → run.BodyTracks g whole base top most Reached f fn is_main
-  body_tracks widens all f fn is_main known covers each = record {
+  body_tracks all f fn is_main known covers each = record {
     tracks = λ j. tracked.tracks Body j;
     left = λ j d. scoped_left p (within (run.callee g whole base top most Reached f fn is_main)) (fn.params ++ globals_from 0 p.variables) fn.body known.good.fits j d;
     returned = λ e j d. scoped_returned p (within (run.callee g whole base top most Reached f fn is_main)) (fn.params ++ globals_from 0 p.variables) fn.body known.good.fits e j d;
@@ -139,12 +135,12 @@ module _ (g : Graph) (whole : Ground) (base top : ℕ → ℕ) (most : ℕ) (Rea
 
       ok : StmtOk g callee most (stmt_nodes p fn.body) scope fn.body
       ok = stmt_ok g callee most (May f) some known.grounded each (λ body e j d. never_continues p (within callee) body e j d) known.apart
-          (counted_ok g callee most (May f) known.grounded (λ x h. May f h) closed (λ x own h may. may) widens)
+          (counted_ok g callee most (May f) known.grounded (λ x h. May f h) closed (λ x own h may. may))
           (stmt_nodes p fn.body) in_body scope (fn.params ++ globals_from 0 p.variables) fn.body covers known.good
 
       tracked : induction.Good g callee most scope fn.body
       tracked = stmt_good g callee most known.grounded.owns (stmt_nodes p fn.body) known.few scope fn.body (omega arith) ok
 
   -- every body does what it means
-  pub bodies_track : Widens → AllKnown → run.BodiesTrack g whole base top most Reached
-  bodies_track widens known f fn is_main main found reached covers each = body_tracks widens known f fn is_main (known f fn is_main main found reached) covers each
+  pub bodies_track : AllKnown → run.BodiesTrack g whole base top most Reached
+  bodies_track known f fn is_main main found reached covers each = body_tracks known f fn is_main (known f fn is_main main found reached) covers each

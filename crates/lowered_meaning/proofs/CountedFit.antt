@@ -200,15 +200,15 @@ module _ (g : Graph) (f : Callee) (most : ℕ) (May : ℕ → Type 0) (grounded 
   stepped : GoodAction w f.is_main f.result May (scoping.first_behind o xs) (action.Update h.target h.place binary.Add h.ty h.by)
   stepped = subst (λ z. GoodStep w f.is_main f.result May (scoping.first_behind o xs) z) h.step_is good.2
 
-  -- but for what the test's conversion and the body owe
-  pub counted_fits : greatest h.variable.ty ≤ greatest h.left.ty → ((j : ℕ) (d : State) → OnBoth (λ l e. words_in x e ≡ words_in x d) ((to_depth p j).stmt body d)) → CountedFits g f most scope o test step body count h
-  counted_fits wide keeps = record {
+  -- but for what the body owes
+  pub counted_fits : ((j : ℕ) (d : State) → OnBoth (λ l e. words_in x e ≡ words_in x d) ((to_depth p j).stmt body d)) → CountedFits g f most scope o test step body count h
+  counted_fits keeps = record {
     enters = subst (λ z. Enters w scope (FirstScope scope z) x) (sym h.first_is) enters;
     can = subst (λ z. Storable w (FirstScope scope z) x) (sym h.first_is) can;
     single = ap length_in h.variable_is ∙ ap length_or h.scalar;
     value_wide = omega (arith, ap greatest value_is_typed);
-    right_wide = omega (arith, wide, ap greatest (common_type p h.left h.right operands));
-    left_wide = wide;
+    right_wide = omega (arith, h.wide, ap greatest (common_type p h.left h.right operands));
+    left_wide = h.wide;
     step_wide = step_holds p h.variable.ty h.ty h.by
         (update_works p h.variable h.target.index h.by h.ty (slice_get p.variables h.target.variable) (ap (λ y. slice_get p.variables y) h.to_variable ∙ h.variable_is) stepped.typed);
     typed = (

@@ -1,8 +1,9 @@
 -- The head of a loop of a known number of turns, taken apart.
 use Rattle.std.proofs.Common.{◌≡◌, ℕ, ◌≤◌, Bool, true, false, Option, Some, None, List, [], ◌∷◌, refl, sym, ap, ◌∙◌, arith, inl, inr}
-use Rattle.std.specs.Prelude.{if◌then◌else◌, slice_get, is_none, ◌==◌, ◌&&◌}
+use Rattle.std.specs.Prelude.{if◌then◌else◌, slice_get, is_none, ◌==◌, ◌&&◌, nat_le}
 use Rattle.std.specs.Option.{option_map}
 use Rattle.base_io.specs.declared.place.Place.{Place}
+use Rattle.std.proofs.lemmas.Bool.{leb-true}
 use Rattle.c_values.specs.declared.ops.Ty.{Ty}
 use Rattle.c_values.specs.declared.ops.Ty.TheVariants.{I8, U8, I16, U16}
 use Rattle.c_values.specs.declared.ops.BinaryOp.{BinaryOp}
@@ -51,6 +52,7 @@ pub record Head (p : Program) (f : Option ForFirst) (test : Option Expr) (step :
   pub test_is : test ≡ Some tested
   pub less : out-ExprKind tested.kind ≡ ExprKind-F.Binary binary.Less left right
   pub is_variable : is_named count.variable left ≡ true
+  pub wide : greatest variable.ty ≤ greatest left.ty
   pub to_is : bound variable.ty right ≡ Some count.to
   pub step_is : step ≡ Some (action.Update target place binary.Add ty by)
   pub to_variable : target.variable ≡ count.variable
@@ -92,18 +94,19 @@ pub record BelowIs (x : ℕ) (ty : Ty) (test : Option Expr) (k : ℕ) : Type 0 w
   pub test_is : test ≡ Some tested
   pub less : out-ExprKind tested.kind ≡ ExprKind-F.Binary binary.Less left right
   pub named : is_named x left ≡ true
+  pub wide : greatest ty ≤ greatest left.ty
   pub to_is : bound ty right ≡ Some k
 
 below_of : (x : ℕ) (ty : Ty) (test : Option Expr) (k : ℕ) → below x ty test ≡ Some k → BelowIs x ty test k
 below_of x ty None k e = cc
 below_of x ty (Some t) k e = by_layer (out-ExprKind t.kind) refl e
   where
-    by_named : (a b : Expr) (c : Bool) → is_named x a ≡ c → out-ExprKind t.kind ≡ ExprKind-F.Binary binary.Less a b → (if c then bound ty b else None) ≡ Some k → BelowIs x ty (Some t) k
-    by_named a b true n q h = record { tested = t; left = a; right = b; test_is = refl; less = q; named = n; to_is = h }
+    by_named : (a b : Expr) (c : Bool) → (is_named x a && nat_le (greatest ty) (greatest a.ty)) ≡ c → out-ExprKind t.kind ≡ ExprKind-F.Binary binary.Less a b → (if c then bound ty b else None) ≡ Some k → BelowIs x ty (Some t) k
+    by_named a b true n q h = record { tested = t; left = a; right = b; test_is = refl; less = q; named = and_left (is_named x a) (nat_le (greatest ty) (greatest a.ty)) n; wide = leb-true (greatest ty) (greatest a.ty) (and_right (is_named x a) (nat_le (greatest ty) (greatest a.ty)) n); to_is = h }
     by_named a b false n q h = cc
 
     by_op : (op : BinaryOp) (a b : Expr) → out-ExprKind t.kind ≡ ExprKind-F.Binary op a b → below_by x ty (ExprKind-F.Binary op a b) ≡ Some k → BelowIs x ty (Some t) k
-    by_op binary.Less a b q h = by_named a b (is_named x a) refl q h
+    by_op binary.Less a b q h = by_named a b (is_named x a && nat_le (greatest ty) (greatest a.ty)) refl q h
     by_op binary.Add a b q h = cc
     by_op binary.Mul a b q h = cc
     by_op binary.Div a b q h = cc
@@ -200,6 +203,7 @@ head_of p (Some (first.Declare (d ∷ []))) test step count e = by_step (steps_u
       test_is = b.test_is;
       less = b.less;
       is_variable = ap (λ c. is_named c.variable b.left) (sym is) ∙ b.named;
+      wide = b.wide;
       to_is = b.to_is ∙ ap (λ c. Some c.to) is;
       step_is = st.step_is;
       to_variable = st.to_variable ∙ ap (λ c. c.variable) is;

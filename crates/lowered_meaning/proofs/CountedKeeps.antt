@@ -90,8 +90,7 @@ left_both x d (Stopped es) h = tt
 -- `Clear x h`: the function h, and what it calls, is clear of the local x of the function
 module _ (g : Graph) (f : Callee) (most : ℕ) (May : ℕ → Type 0) (grounded : Grounded f.ground) (Clear : ℕ → ℕ → Type 0)
     (closed : (x : ℕ) → IsLocal f.ground x → (h : ℕ) (fn : Function) → slice_get f.ground.setting.program.functions h ≡ Some fn → Clear x h → ClearBody f.ground.setting.program x (Clear x) fn)
-    (clear : (x : ℕ) → IsLocal f.ground x → (h : ℕ) → May h → Clear x h)
-    (widens : (o : Option ForFirst) (test : Option Expr) (step : Option Action) (count : Count) (h : Head f.ground.setting.program o test step count) → greatest h.variable.ty ≤ greatest h.left.ty) where
+    (clear : (x : ℕ) → IsLocal f.ground x → (h : ℕ) → May h → Clear x h) where
   abbrev w : Ground
   w = f.ground
 
@@ -101,7 +100,7 @@ module _ (g : Graph) (f : Callee) (most : ℕ) (May : ℕ → Type 0) (grounded 
   pub counted_ok : (scope : ℕ → Type 0) (xs : Scope) (st : scoping.Stand) (o : Option ForFirst) (test : Option Expr) (step : Option Action) (body : Stmt) → Covers w scope xs
       → GoodLayer w f.is_main f.result May st xs (StmtKind-F.For o test step body) → CountedOk g f most scope o test step body
   counted_ok scope xs st o test step body covers good count is h =
-      counted_fits g f most May grounded scope xs st o test step body covers good count h (widens o test step count h) (λ j d. left_both x d ((to_depth p j).stmt body d) (leaves j d))
+      counted_fits g f most May grounded scope xs st o test step body covers good count h (λ j d. left_both x d ((to_depth p j).stmt body d) (leaves j d))
     where
       x : ℕ
       x = count.variable

@@ -34,7 +34,7 @@ use Rattle.lowered_meaning.proofs.FitExprs.{Grounded}
 use Rattle.lowered_meaning.proofs.FunctionScopes.{BodyScope, params_in, body_covers}
 use Rattle.lowered_meaning.proofs.GoodStmts.{OwnOnce}
 use Rattle.lowered_meaning.proofs.FunctionsRun as run
-use Rattle.lowered_meaning.proofs.BodiesTrack.{Widens, AllKnown, bodies_track}
+use Rattle.lowered_meaning.proofs.BodiesTrack.{AllKnown, bodies_track}
 use Rattle.lowered_meaning.proofs.LoweredMain.{lowered_main}
 
 -- ---- what is said of all functions is said of each
@@ -168,8 +168,8 @@ module _ (g : Graph) (whole : Ground) (base top : ℕ → ℕ) (Reached : ℕ �
         at = stands.functions f fn is_main main found reached
 
     -- the graph does what the program means
-    pub lowered_sound : AreBounded p → Widens g whole base top p.nodes Reached some → IsLowered p g
-    lowered_sound bounds widens = lowered_main g whole base top Reached sound bounds (record {
+    pub lowered_sound : AreBounded p → IsLowered p g
+    lowered_sound bounds = lowered_main g whole base top Reached sound bounds (record {
       main = stands.main;
       found = stands.found;
       reached = stands.reached;
@@ -177,4 +177,4 @@ module _ (g : Graph) (whole : Ground) (base top : ℕ → ℕ) (Reached : ℕ �
       placed = λ f fn found reached lower. placed f fn false found (stands.functions f fn false (run.no_main g whole base top p.nodes Reached f lower) found reached);
       numbered = stands.numbered;
       begins = stands.begins;
-    }) (bodies_track g whole base top p.nodes Reached some widens known)
+    }) (bodies_track g whole base top p.nodes Reached some known)
