@@ -1,6 +1,6 @@
 -- What the head of a counted loop says: its variable is a scalar that it declares, and its numbers are words.
 use Rattle.std.proofs.Common.{◌≡◌, ℕ, ◌<◌, ◌≤◌, ◌^◌, Bool, true, false, Option, Some, None, List, [], ◌∷◌, refl, subst, arith}
-use Rattle.std.specs.Prelude.{slice_get, is_none, nat_le, ℤ, pos, negsuc, if◌then◌else◌}
+use Rattle.std.specs.Prelude.{◌&&◌, slice_get, is_none, nat_le, ℤ, pos, negsuc, if◌then◌else◌}
 use Rattle.std.specs.Option.{option_and_then}
 use Rattle.std.proofs.lemmas.Bool.{false≢true}
 use Rattle.c_values.specs.declared.ops.Ty.{Ty}
@@ -50,7 +50,7 @@ below_small x ty None k h = absurd (cc)
 below_small x ty (Some e) k h = by_layer (out-ExprKind e.kind) h
   where
     less : (op : BinaryOp) (a b : Expr) → below_by x ty (ExprKind-F.Binary op a b) ≡ Some k → k < 2 ^ 16
-    less binary.Less a b q = bound_small ty b k (if_some (is_named x a) (bound ty b) k q).1
+    less binary.Less a b q = bound_small ty b k (if_some (is_named x a && nat_le (greatest ty) (greatest a.ty)) (bound ty b) k q).1
     less _ a b q = absurd (cc)
 
     by_layer : (l : ExprLayer) → below_by x ty l ≡ Some k → k < 2 ^ 16

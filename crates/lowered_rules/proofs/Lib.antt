@@ -46,3 +46,16 @@ pub mod ObjectRules
 pub mod ReachedLemmas
 pub mod BodyTemps
 pub mod HomesOf
+-- what is introduced, and where
+pub mod Rising
+pub mod Introduced
+-- a reached function fits
+pub mod FrameLemmas
+pub mod FunctionFit
+-- what stands at each place
+pub mod PlaceLemmas
+-- the graph obeys the rules
+pub mod NodeRules
+pub mod GraphRules
+pub mod SmallRules
+pub mod Obeyed

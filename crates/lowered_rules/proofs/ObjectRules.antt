@@ -58,7 +58,7 @@ variable_fits (u ∷ vs) zero v h e =
     subst (λ (z : Variable). (length_fits z.length ≡ true) × (first_words_fit z ≡ true)) same (q.0, (and_parts (first_words_fit u) (variables_fit vs) q.1).0)
 variable_fits (u ∷ vs) (suc k) v h e = variable_fits vs k v (and_parts (first_words_fit u) (variables_fit vs) (and_parts (length_fits u.length) (first_words_fit u && variables_fit vs) h).1).1 e
 
-length_small : (n : Option ℕ) → length_fits n ≡ true → length_or n ≤ 1024
+pub length_small : (n : Option ℕ) → length_fits n ≡ true → length_or n ≤ 1024
 length_small None h = omega arith
 length_small (Some n) h = let q = and_parts (nat_le 1 n) (nat_le n 1024) h in grind (arith, q.1)
 
@@ -76,7 +76,7 @@ taken zero xs le = refl
 taken (suc n) [] le = absurd (omega (arith, le))
 taken (suc n) (x ∷ xs) le = let e = taken n xs (omega (arith, le)) in omega (arith, e)
 
-sized_length : (n : Option ℕ) (ws : List ℕ) → length (first_sized n ws) ≡ length_or n
+pub sized_length : (n : Option ℕ) (ws : List ℕ) → length (first_sized n ws) ≡ length_or n
 sized_length None [] = refl
 sized_length None (w ∷ ws) = refl
 sized_length (Some n) ws = taken n (ws ++ replicate n 0) (omega (arith, length-append ws (replicate n 0), length-replicate {A = ℕ} n 0))

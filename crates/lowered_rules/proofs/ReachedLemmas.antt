@@ -1,7 +1,9 @@
 -- Which functions are reached: `main`, and each that a reached one calls.
 use Rattle.std.proofs.Common.{◌≡◌, ℕ, zero, suc, ◌+◌, ◌<◌, ◌≤◌, Bool, true, false, Some, List, [], ◌∷◌, length, replicate, inl, inr, refl, sym, ap, subst, ◌∙◌, arith}
-use Rattle.std.specs.Prelude.{⊤, ◌⊎◌, ◌||◌, slice_get, slice_index_or}
-use Rattle.std.proofs.lemmas.List.{length-replicate, length-set, get_or-set_same}
+use Rattle.std.specs.Prelude.{⊤, ◌⊎◌, ◌||◌, ◌&&◌, slice_get, slice_index_or}
+use Rattle.std.proofs.lemmas.Bool.{and_parts, or_cases, cases_eq, false≢true}
+use Rattle.std.proofs.lemmas.List.{length-replicate, length-set, get_or-set_same, get_or-set_other}
+use Rattle.std.proofs.lemmas.Option.{slice_get_within}
 use Rattle.c_tree.specs.declared.tree.Function.{Function}
 use Rattle.c_tree.specs.declared.tree.Program.{Program}
 use Rattle.lowered_graphs.specs.Stmts.{holds}
@@ -58,6 +60,10 @@ module _ (p : Program) where
   marks_length : (k : ℕ) → length (M k) ≡ N
   marks_length zero = length-set (replicate N false) p.main true ∙ length-replicate N false
   marks_length (suc k) = marked_length (M k) 0 p.functions
+
+  -- each function has a mark
+  pub reached_length : length (reached p) ≡ length p.functions
+  reached_length = marks_length N
 
   marked_at : (marks : List Bool) (n : ℕ) (xs : List Function) (k : ℕ) → k < length xs → slice_index_or (mark_on p marks n xs) k false ≡ (slice_index_or marks (n + k) false || is_called p marks (n + k) 0 p.functions)
   marked_at marks n [] k lt = absurd (omega (arith, lt))
@@ -133,3 +139,65 @@ module _ (p : Program) where
 
   pub reached_main : p.main < N → slice_index_or (reached p) p.main false ≡ true
   reached_main lt = main_marked lt N
+
+  -- ---- nothing else is reached
+
+  record Caller (marks : List Bool) (m n : ℕ) (xs : List Function) : Type 0 where
+    pub at : ℕ
+    pub function : Function
+    pub there : slice_get xs at ≡ Some function
+    pub marked : slice_index_or marks (n + at) false ≡ true
+    pub calls : holds m (function_callees p (n + at) function) ≡ true
+
+  caller_of : (marks : List Bool) (m n : ℕ) (xs : List Function) → is_called p marks m n xs ≡ true → Caller marks m n xs
+  caller_of marks m n [] h = absurd (false≢true h)
+  caller_of marks m n (x ∷ xs) h = elim (or_cases (slice_index_or marks n false && holds m (function_callees p n x)) (is_called p marks m (n + 1) xs) h) [
+    | inl here ↦
+        let q = and_parts (slice_index_or marks n false) (holds m (function_callees p n x)) here in
+        let e : n ≡ n + 0 = omega arith in
+        record {
+          at = 0;
+          function = x;
+          there = refl;
+          marked = subst (λ k. slice_index_or marks k false ≡ true) e q.0;
+          calls = subst (λ k. holds m (function_callees p k x) ≡ true) e q.1;
+        }
+    | inr rest ↦
+        let c = caller_of marks m (n + 1) xs rest in
+        let e : n + 1 + c.at ≡ n + suc c.at = omega arith in
+        record {
+          at = suc c.at;
+          function = c.function;
+          there = c.there;
+          marked = subst (λ k. slice_index_or marks k false ≡ true) e c.marked;
+          calls = subst (λ k. holds m (function_callees p k c.function) ≡ true) e c.calls;
+        }
+  ]
+
+  unmarked : (n i : ℕ) → slice_index_or (replicate n false) i false ≡ true → ⊥
+  unmarked zero i h = false≢true h
+  unmarked (suc n) zero h = false≢true h
+  unmarked (suc n) (suc i) h = unmarked n i h
+
+  module _ (P : ℕ → Type 0) (first : P p.main)
+      (on : (n m : ℕ) (f : Function) → slice_get p.functions n ≡ Some f → P n → holds m (function_callees p n f) ≡ true → P m) where
+    marks_all : (k m : ℕ) → m < N → slice_index_or (M k) m false ≡ true → P m
+    marks_all zero m lt h = elim (cases_eq m p.main) [
+      | inl same ↦ subst P (sym same) first
+      | inr other ↦ absurd (unmarked N m (sym (get_or-set_other (replicate N false) p.main m true false other) ∙ h))
+    ]
+    marks_all (suc k) m lt h =
+        let e : 0 + m ≡ m = omega arith in
+        let either = sym (marked_at (M k) 0 p.functions m lt) ∙ h in
+        elim (or_cases (slice_index_or (M k) (0 + m) false) (is_called p (M k) (0 + m) 0 p.functions) either) [
+          | inl before ↦ marks_all k m lt (subst (λ z. slice_index_or (M k) z false ≡ true) e before)
+          | inr called ↦
+              let c = caller_of (M k) (0 + m) 0 p.functions called in
+              let there : 0 + c.at ≡ c.at = omega arith in
+              on c.at m c.function c.there (marks_all k c.at (slice_get_within p.functions c.at c.function c.there) (subst (λ z. slice_index_or (M k) z false ≡ true) there c.marked))
+              (subst (λ z. holds z (function_callees p c.at c.function) ≡ true) e (subst (λ z. holds (0 + m) (function_callees p z c.function) ≡ true) there c.calls))
+        ]
+
+    -- what holds of `main`, and with a function of those that it calls, holds of each function that is reached
+    pub reached_induction : (m : ℕ) → m < N → slice_index_or (reached p) m false ≡ true → P m
+    reached_induction m lt h = marks_all N m lt h

@@ -81,10 +81,10 @@ onto_results p n (f ∷ fs) rs = onto_results p (n + 1) fs (if slice_index_or (r
 abbrev pub StandsFrom : {X : Type 0} → List X → ℕ → List X → Type 0
 StandsFrom {X} whole n part = (k : ℕ) (x : X) → slice_get part k ≡ Some x → slice_get whole (n + k) ≡ Some x
 
-stands_head : {X : Type 0} (whole : List X) (n : ℕ) (x : X) (xs : List X) → StandsFrom whole n (x ∷ xs) → slice_get whole n ≡ Some x
+pub stands_head : {X : Type 0} (whole : List X) (n : ℕ) (x : X) (xs : List X) → StandsFrom whole n (x ∷ xs) → slice_get whole n ≡ Some x
 stands_head whole n x xs h = let e : n + 0 ≡ n = omega arith in subst (λ m. slice_get whole m ≡ Some x) e (h 0 x refl)
 
-stands_tail : {X : Type 0} (whole : List X) (n : ℕ) (x : X) (xs : List X) → StandsFrom whole n (x ∷ xs) → StandsFrom whole (n + 1) xs
+pub stands_tail : {X : Type 0} (whole : List X) (n : ℕ) (x : X) (xs : List X) → StandsFrom whole n (x ∷ xs) → StandsFrom whole (n + 1) xs
 stands_tail whole n x xs h k y e = let same : n + suc k ≡ n + 1 + k = omega arith in subst (λ m. slice_get whole m ≡ Some y) same (h (suc k) y e)
 
 module _ (p : Program) where
@@ -192,7 +192,7 @@ module _ (p : Program) where
 
   -- ---- which variables have homes
 
-  each_locals : (P : ℕ → Type 0) (ys xs : List ℕ) → Each P (onto_locals ys xs) → Each P ys × Each P xs
+  pub each_locals : (P : ℕ → Type 0) (ys xs : List ℕ) → Each P (onto_locals ys xs) → Each P ys × Each P xs
   each_locals P [] xs h = (tt, h)
   each_locals P (y ∷ ys) xs h = let q = each_locals P ys (y ∷ xs) h in ((q.1.0, q.0), q.1.1)
 
@@ -222,7 +222,7 @@ module _ (p : Program) where
 
 -- ---- the whole numbering
 
-stands_whole : {X : Type 0} (xs : List X) → StandsFrom xs 0 xs
+pub stands_whole : {X : Type 0} (xs : List X) → StandsFrom xs 0 xs
 stands_whole xs k x e = let same : k ≡ 0 + k = omega arith in subst (λ m. slice_get xs m ≡ Some x) same e
 
 zeros_length : (n : ℕ) → length {A = ℕ} (replicate n 0) ≡ n

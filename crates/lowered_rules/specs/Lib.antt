@@ -1,0 +1,2 @@
+-- that a lowered graph obeys the rules of graphs
+pub mod Obeying
