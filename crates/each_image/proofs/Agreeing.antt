@@ -1,5 +1,5 @@
 -- The image of a graph of one function agrees and endures.
-use Rattle.std.proofs.Common.{◌≡◌, ℕ, suc, ◌+◌, ◌<◌, ◌≤◌, Bool, true, false, List, [], ◌++◌, length, flat_map, Some, refl, sym, ap, ◌∙◌, subst, arith}
+use Rattle.std.proofs.Common.{◌≡◌, ℕ, suc, ◌+◌, ◌*◌, ◌<◌, ◌≤◌, Bool, true, false, List, [], ◌++◌, length, flat_map, Some, refl, sym, ap, ◌∙◌, subst, arith}
 use Rattle.std.specs.Prelude.{if◌then◌else◌, slice_get}
 use Rattle.board_table.specs.declared.board.Board.{Board}
 use Rattle.plain_meaning.specs.Behaviour.{Behaviour}
@@ -13,28 +13,30 @@ use Rattle.flow_graph.specs.Owned.{operations}
 use Rattle.flow_graph.specs.Flow.{Begin, flow}
 use Rattle.resumed_runs.specs.Code.{boot}
 use Rattle.resumed_runs.specs.Carries.{Carries}
+use Rattle.resumed_runs.specs.Counts.{IsCounted}
 use Rattle.resumed_runs.specs.Need.{sleep_cost}
+use Rattle.resumed_runs.proofs.Agreeing.{setting}
 use Rattle.laid_code.specs.Flows.{behaves}
-use Rattle.laid_code.specs.Chosen.{Piece, chosen_code, head_at}
+use Rattle.laid_code.specs.Chosen.{Piece, StandsAt, chosen_at, chosen_code, head_at}
 use Rattle.laid_code.proofs.Behaves.{Tracks, follows}
-use Rattle.laid_code.proofs.ChosenHeads.{landing}
+use Rattle.laid_code.proofs.ChosenHeads.{Shown, landing}
 use Rattle.laid_code.proofs.ChosenHeads as chosen
-use Rattle.laid_code.proofs.ChosenImage.{IsChosenImage, chosen_agrees, chosen_endures, chosen_plan}
+use Rattle.laid_code.proofs.ChosenImage.{IsChosenImage, chosen_agrees, chosen_endures, chosen_plan, chosen_works}
 use Rattle.graph_flow.specs.GraphFlow.{Place, begin, flow_of, sizes}
-use Rattle.graph_flow.proofs.Meeting.{graphs_are_flows}
+use Rattle.graph_flow.proofs.Meeting.{graph_stands, graphs_are_flows}
 use Rattle.graph_flow.proofs.Obeying.{graphs_obey}
 use Rattle.graph_code.specs.Homes.{HaveHomes, first_word}
 use Rattle.graph_code.specs.Order.{IsThere}
 use Rattle.graph_code.specs.Pieces.{address_of, pieces}
 use Rattle.graph_code.proofs.HomeLemmas.{home_clear, homes_apart, objects_have_homes}
 use Rattle.graph_code.proofs.OrderLemmas.{operations_stand_in_order, runs_begin_first}
-use Rattle.graph_code.proofs.Pieces.{head_is}
+use Rattle.graph_code.proofs.Pieces.{address_is, head_is}
 use Rattle.op_cost.specs.Weights.{overhead}
 use Rattle.each_image.specs.Image.{data_blocks, fram_template, graph_blocks, left_at}
-use Rattle.each_image.specs.Laws.{IsEach, EachImagesAgree, EachImagesEndure}
+use Rattle.each_image.specs.Laws.{IsEach, EachChargesWork, EachImagesAgree, EachImagesEndure, ShowsFlow}
 use Rattle.each_image.proofs.Loaded.{begins_in, blocks_front, objects_in, word_in_fram}
 use Rattle.each_image.proofs.Performing.{performed, pieces-count, weight_at, weight_there}
-use Rattle.each_image.proofs.Places.{size-append, size_is}
+use Rattle.each_image.proofs.Places.{size-append, size_is, steady}
 use Rattle.each_image.proofs.Standing.{Stood, operations-length, stood}
 use Rattle.each_image.proofs.Stretches.{jumps, left_step, left_within, overhead_is, total, weight_within}
 
@@ -111,8 +113,31 @@ module _ (b : Board) (program : Behaviour) (nodes : ℕ) (heads : ℕ → Bool) 
   same_flow : (s : State) → Begin g.objects (objects_in g s) → (λ (words : List ℕ) (n : ℕ). flow g (objects_in g s) words n) ≡ does s
   same_flow s begins = λ i words n. sym (graphs_are_flows g (objects_in g s) words is.rules begins n) i
 
+  -- ---- What states show
+
+  abbrev Shows : List ℕ → State → ℕ → State → Type 0
+  Shows input s = ShowsFlow heads g (objects_in g s) input
+
+  -- the place of the flow is where the graph stands
+  shows : (input : List ℕ) (s : State) → IsFirst s → HoldsBlocks s (graph_blocks heads g) → (done : ℕ) (u : State)
+      → Shown Place (flow_of g) (sizes g) plan (setting b (graph_blocks heads g) whole input s.code) (does s) (Tracks Place (flow_of g) (begin g) (word_at (objects_in g s)) (sizes g) input) done u
+      → Shows input s done u
+  shows input s first holds done u w =
+      let t = w.tracks in
+      let st = graph_stands g (objects_in g s) input is.rules (begins_here s first holds) done w.q t.real w.taken w.put t.is in
+      let o = at_place w.q (there w.q w.there) in
+      let place : 0x8000 + 2 * chosen_at 9 ts w.q.at ≡ address_of (fram_template g) heads g st.0.at =
+      sym (address_is (fram_template g) heads (steady g) g w.q.at) ∙ ap (λ n. address_of (fram_template g) heads g n) (sym st.2) in
+      let head : head_at ts w.q.at ≡ heads st.0.at = has_head w.q.at o ∙ ap heads (sym st.2) in
+      record {
+        spot = st.0;
+        is = ap (λ x. x.stand) st.1;
+        stands = subst (λ a. StandsAt a (heads st.0.at) u) place (subst (λ c. StandsAt (0x8000 + 2 * chosen_at 9 ts w.q.at) c u) head w.stands);
+        held = λ p i low. w.held p i low ∙ t.same p i low ∙ st.3 p i;
+      }
+
   pub image_is : IsChosenImage Place (flow_of g) (sizes g) b whole (data_blocks g) ts (λ q. q.at) weighs left (first_word g) program nodes does
-      (λ input s. Tracks Place (flow_of g) (begin g) (word_at (objects_in g s)) (sizes g) input)
+      (λ input s. Tracks Place (flow_of g) (begin g) (word_at (objects_in g s)) (sizes g) input) (λ input s. ShowsFlow heads g (objects_in g s) input)
   image_is = record {
     first = begin g;
     first_is = (runs_begin_first g is.rules is.alone).0;
@@ -154,18 +179,32 @@ module _ (b : Board) (program : Behaviour) (nodes : ℕ) (heads : ℕ → Bool) 
     carries = λ input s small first holds.
         (let begins = begins_here s first holds in
         subst (λ f. Carries program f nodes input) (same_flow s begins) (is.carries (objects_in g s) input small begins));
+    shows = shows;
   }
 
 pub each_images_agree : EachImagesAgree
 each_images_agree b program nodes heads g is fits =
     chosen_agrees Place (flow_of g) (sizes g) b b.budget (data_blocks g) (pieces (fram_template g) heads g) (λ q. q.at) (λ q. weight_at b (graph_nodes g) q.at)
     (λ q. left_at b heads (graph_nodes g) q.at + sleep_cost b) (first_word g) program nodes (λ s. behaves Place (flow_of g) (begin g) (word_at (objects_in g s)))
-    (λ input s. Tracks Place (flow_of g) (begin g) (word_at (objects_in g s)) (sizes g) input) (image_is b program nodes heads g is b.budget fits) (omega arith)
+    (λ input s. Tracks Place (flow_of g) (begin g) (word_at (objects_in g s)) (sizes g) input) (λ input s. ShowsFlow heads g (objects_in g s) input) (image_is b program nodes heads g is b.budget fits) (omega arith)
 
 pub each_images_endure : EachImagesEndure
 each_images_endure b program nodes heads g is =
     let whole : ℕ = total b heads (graph_nodes g) + overhead b in
     chosen_endures Place (flow_of g) (sizes g) b (total b heads (graph_nodes g) + overhead b) (data_blocks g) (pieces (fram_template g) heads g) (λ q. q.at) (λ q. weight_at b (graph_nodes g) q.at)
     (λ q. left_at b heads (graph_nodes g) q.at + sleep_cost b) (first_word g) program nodes (λ s. behaves Place (flow_of g) (begin g) (word_at (objects_in g s)))
-    (λ input s. Tracks Place (flow_of g) (begin g) (word_at (objects_in g s)) (sizes g) input)
+    (λ input s. Tracks Place (flow_of g) (begin g) (word_at (objects_in g s)) (sizes g) input) (λ input s. ShowsFlow heads g (objects_in g s) input)
     (image_is b program nodes heads g is (total b heads (graph_nodes g) + overhead b) (λ i low has. (let w = left_within b heads (graph_nodes g) i in omega (arith, w))))
+
+pub each_charges_work : EachChargesWork
+each_charges_work b program nodes heads g is fits input events t words generous run =
+    let begins = begins_here b program nodes heads g is b.budget fits run.0 run.1 run.2 in
+    let counted =
+    chosen_works Place (flow_of g) (sizes g) b b.budget (data_blocks g) (pieces (fram_template g) heads g) (λ q. q.at) (λ q. weight_at b (graph_nodes g) q.at)
+    (λ q. left_at b heads (graph_nodes g) q.at + sleep_cost b) (first_word g) program nodes (λ s. behaves Place (flow_of g) (begin g) (word_at (objects_in g s)))
+    (λ input s. Tracks Place (flow_of g) (begin g) (word_at (objects_in g s)) (sizes g) input) (λ input s. ShowsFlow heads g (objects_in g s) input) (image_is b program nodes heads g is b.budget fits) (omega arith) input events t words generous run in (
+      objects_in g run.0,
+      begins,
+      (λ o i low. sym (word_in_fram g run.0 o i low)),
+      subst (λ (f : Behaviour). IsCounted b input f (ShowsFlow heads g (objects_in g run.0) input) run.0 events t) (sym (same_flow b program nodes heads g is b.budget fits run.0 begins)) counted,
+    )

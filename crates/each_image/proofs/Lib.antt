@@ -19,3 +19,7 @@ pub mod Straight
 pub mod EachHeads
 -- its blocks are an image
 pub mod Ascending
+-- its instructions are of the profile, and some first state holds it
+pub mod Profile
+pub mod FirstStates
+pub mod Holding

@@ -249,7 +249,8 @@ fn put_two(code: &mut Instrs, first: &[Instr], second: &[Instr])
 
 fn unary(places: &[u16], op: &Op) -> Instrs
     requires has { HasHomes places.now op.now }
-    ensures { take result.count result.list ≡ spec.code_of (spec.unary (home_in places.now) op.now) }
+    ensures listed { take result.count result.list ≡ spec.code_of (spec.unary (home_in places.now) op.now) }
+    ensures few { result.count ≤ 96 }
 {
     let mut code = Instrs::new();
     code.put(&[load(places, 15, op.a)]);
@@ -260,7 +261,8 @@ fn unary(places: &[u16], op: &Op) -> Instrs
 
 fn binary(places: &[u16], op: &Op) -> Instrs
     requires has { HasHomes places.now op.now }
-    ensures { take result.count result.list ≡ spec.code_of (spec.binary (home_in places.now) op.now) }
+    ensures listed { take result.count result.list ≡ spec.code_of (spec.binary (home_in places.now) op.now) }
+    ensures few { result.count ≤ 96 }
 {
     let mut code = Instrs::new();
     code.put(&[load(places, 15, op.a), load(places, 14, op.b)]);
@@ -271,7 +273,8 @@ fn binary(places: &[u16], op: &Op) -> Instrs
 
 fn load_element(places: &[u16], op: &Op) -> Instrs
     requires has { HasHomes places.now op.now }
-    ensures { take result.count result.list ≡ spec.code_of (spec.template_by kind.Load (home_in places.now) 0 op.now) }
+    ensures listed { take result.count result.list ≡ spec.code_of (spec.template_by kind.Load (home_in places.now) 0 op.now) }
+    ensures few { result.count ≤ 96 }
 {
     let mut code = Instrs::new();
     code.put(&[load(places, 14, op.a)]);
@@ -285,7 +288,8 @@ fn load_element(places: &[u16], op: &Op) -> Instrs
 
 fn store_element(places: &[u16], op: &Op) -> Instrs
     requires has { HasHomes places.now op.now }
-    ensures { take result.count result.list ≡ spec.code_of (spec.template_by kind.Store (home_in places.now) 0 op.now) }
+    ensures listed { take result.count result.list ≡ spec.code_of (spec.template_by kind.Store (home_in places.now) 0 op.now) }
+    ensures few { result.count ≤ 96 }
 {
     let mut code = Instrs::new();
     code.put(&[load(places, 15, op.a), load(places, 14, op.b)]);
@@ -300,7 +304,8 @@ fn store_element(places: &[u16], op: &Op) -> Instrs
 
 fn listed(instrs: &[Instr]) -> Instrs
     requires few { length instrs.now ≤ 8 }
-    ensures { take result.count result.list ≡ instrs.now }
+    ensures listed { take result.count result.list ≡ instrs.now }
+    ensures few { result.count ≤ 96 }
 {
     let mut code = Instrs::new();
     code.put(instrs);
@@ -309,7 +314,8 @@ fn listed(instrs: &[Instr]) -> Instrs
 
 fn listed_template(homes: &[u16], op: &Op, target: u16) -> Instrs
     requires has { HasHomes homes.now op.now }
-    ensures { take result.count result.list ≡ spec.code_of (spec.template (home_in homes.now) target op.now) }
+    ensures listed { take result.count result.list ≡ spec.code_of (spec.template (home_in homes.now) target op.now) }
+    ensures few { result.count ≤ 96 }
 {
     match op.kind {
         OpKind::Copy | OpKind::Neg | OpKind::Inv | OpKind::ToU8 | OpKind::ToS8 => unary(homes, op),
@@ -359,6 +365,7 @@ fn listed_template(homes: &[u16], op: &Op, target: u16) -> Instrs
 pub fn template(op: &Op, places: &Places, target: u16) -> Instrs
     requires has { HasHomes places.now.of.items op.now }
     ensures listed { take result.count result.list ≡ spec.code_of (spec.template (home_in places.now.of.items) target op.now) }
+    ensures few { result.count ≤ 96 }
     ensures done { DoesOperation (take result.count result.list) (home_in places.now.of.items) target op.now }
     ensures runs { RunsOperation (take result.count result.list) (home_in places.now.of.items) target op.now }
 {

@@ -16,7 +16,8 @@ use Rattle.flow_graph.specs.declared.nodes.Node.{Node}
 use Rattle.flow_graph.specs.Operations.{Words, words_of, word_at, with_word, operand_word, gives, passes}
 use Rattle.flow_graph.specs.Nodes.{graph_nodes, node_in}
 use Rattle.flow_graph.specs.Flow as graph_flow
-use Rattle.flow_graph.specs.Flow.{Spot, Did, Went, Ended, Trapped, Lost, told_at, told_over, telling, flow_from, start, operate}
+use Rattle.flow_graph.specs.Flow.{Begin, Spot, Did, Went, Ended, Trapped, Lost, told_at, told_over, telling, flow_from, start, operate}
+use Rattle.flow_graph.specs.Rules.{IsGraph}
 use Rattle.flow_graph.specs.Laws.{AllWritesFit, ArrayWithin, DestWithin, NeverLost, WritesFit}
 use Rattle.flow_graph.proofs.ObjectLemmas.{word_written, length_same, count_same}
 use Rattle.flow_graph.proofs.StandLemmas.{nothing_is_missing, writes_are_within}
@@ -251,3 +252,12 @@ pub graphs_are_flows : GraphsAreFlows
 graphs_are_flows g objects input rules begins_so n =
     means g objects input (stage Place (flow_of g) (begin g) (word_at objects) input n) n
     (tells g objects input (writes_are_within g objects rules begins_so) (nothing_is_missing g objects input rules begins_so) n)
+
+-- Where the flow goes on, the graph stands at that operation, with the same words of objects.
+pub graph_stands : (g : Graph) (objects : Words) (input : List ℕ) → IsGraph g → Begin g.objects objects → (n : ℕ) (q : Place) (m : Memory) (taken : ℕ) (put : List ℕ)
+    → stage Place (flow_of g) (begin g) (word_at objects) input n ≡ Doing q m taken put
+    → (s : Spot) × (flow_from g n (start g objects input) ≡ told_at put s) × (s.at ≡ q.at) × ((o i : ℕ) → m o i ≡ word_at s.objects o i)
+graph_stands g objects input rules begins_so n q m taken put is =
+    let told : Tells g objects input (stage Place (flow_of g) (begin g) (word_at objects) input n) n = tells g objects input (writes_are_within g objects rules begins_so) (nothing_is_missing g objects input rules begins_so) n in
+    let t : Tells g objects input (Doing q m taken put) n = subst (λ st. Tells g objects input st n) is told in
+    (t.0, t.1, t.2.at, t.2.alike.words)

@@ -1,15 +1,17 @@
 -- Heads before chosen operations, and all objects in FRAM: each stretch is what lies between two heads, with branches and loops in it as
 -- long as it fits a charge. With a head before each operation, or before the first alone, it is the code of programs without plans.
-use Rattle.std.proofs.Common.{◌≡◌, ◌≢◌, ◌⊎◌, ℕ, ◌+◌, ◌*◌, ◌<◌, ◌≤◌, Bool, true, false, [], Option, Some, None, refl, sym, ap, ◌∙◌, subst, arith, inl, inr}
+use Rattle.std.proofs.Common.{◌≡◌, ◌≢◌, ◌⊎◌, ℕ, ◌+◌, ◌*◌, ◌<◌, ◌≤◌, Bool, true, false, List, [], Option, Some, None, refl, sym, ap, ◌∙◌, subst, arith, inl, inr}
 use Rattle.std.specs.Prelude.{◌==◌, if◌then◌else◌}
 use Rattle.std.proofs.lemmas.Bool.{cases_Bool, eq-eqb, eqb-true}
+use Rattle.msp430_machine.proofs.Writes.{set_at_other}
 use Rattle.plain_meaning.specs.Behaviour.{Behaviour}
-use Rattle.msp430_machine.specs.State.{State}
+use Rattle.msp430_machine.specs.State.{Off, Asleep, State}
 use Rattle.power_core.proofs.Points.{Setting}
 use Rattle.resumed_runs.specs.Code.{head}
 use Rattle.resumed_runs.specs.Need.{wake_cost, sleep_cost}
 use Rattle.resumed_runs.proofs.Paths.{Stand}
-use Rattle.resumed_runs.proofs.Carrying.{Carried, Begun}
+use Rattle.resumed_runs.proofs.Carrying.{Carried, Tied, Resumed, Begun}
+use Rattle.laid_code.specs.Chosen.{WorksAt, StandsAt}
 use Rattle.laid_code.specs.Flows.{Memory, On, Away, Effect, Flow}
 use Rattle.laid_code.proofs.Following.{Tracking, Follows}
 use Rattle.laid_code.proofs.Homes.{Home, InFram, IsClear, Apart}
@@ -192,3 +194,76 @@ module _ (Q : Type 0) (flow : Flow Q) (words : ℕ → ℕ) (plan : Plan Q) (g :
       affords = stands.fits q is has;
       fresh = ap (λ c. if c then 0 else 1) has;
     })
+
+  -- ---- What states show of the flow
+
+  -- The flow has come to this place in so many operations: the device stands there, and FRAM holds the words of objects.
+  pub record Shown (operations : ℕ) (s : State) : Type 0 where
+    pub q : Q
+    pub m : Memory
+    pub taken : ℕ
+    pub put : List ℕ
+    pub tracks : Tracks operations q m taken put
+    pub there : plan.is_there q
+    pub stands : StandsAt (0x8000 + 2 * plan.at q) (plan.has_head q) s
+    pub held : (o i : ℕ) → i < words o → s.fram (plan.base o + i) ≡ m o i
+
+  module _ (need wakes operations : ℕ) (put : List ℕ) (s : State) where
+    abbrev Here' : Position Q → Memory → Type 0
+    Here' x m = Here (Position Q) Q flow words L g x m s
+
+    there_by : (x : Position Q) → counts Q plan (sleep_cost g.board) x → plan.is_there (spot_of Q x)
+    there_by (Before q) is = is.0
+    there_by (Behind q) is = is
+
+    behind_by : (q : Q) (c : Bool) → plan.has_head q ≡ c → s.reg 0 ≡ 0x8000 + 2 * (if c then plan.at q + 11 else plan.at q) → (s.reg 0 ≡ 0x8000 + 2 * plan.at q) ⊎ ((plan.has_head q ≡ true) × (s.reg 0 ≡ 0x8000 + 2 * plan.at q + 22))
+    behind_by q true has pc = inr (has, omega (arith, pc))
+    behind_by q false has pc = inl pc
+
+    works_by : (x : Position Q) (m : Memory) → Here' x m → WorksAt (0x8000 + 2 * plan.at (spot_of Q x)) (plan.has_head (spot_of Q x)) s
+    works_by (Before q) m here = (here.working.awake, here.working.closed, inl here.pc)
+    works_by (Behind q) m here = (here.working.awake, here.working.closed, behind_by q (plan.has_head q) refl here.pc)
+
+    pub points_work : At (Position Q) Q flow words L g does Tracks need wakes operations put s → Shown operations s
+    points_work at = record {
+      q = spot_of Q at.x;
+      m = at.m;
+      taken = s.taken;
+      put = put;
+      tracks = at.tracks;
+      there = there_by at.x at.here.counted;
+      stands = inl (works_by at.x at.m at.here);
+      held = λ o i low. at.here.held o (InFram (plan.base o)) refl i low;
+    }
+
+  -- behind the head alone no operation was done since the wake
+  resumed_by : (x : Position Q) (k operations : ℕ) → operations + 1 + busy Q plan (sleep_cost g.board) x ≤ operations + 1 → 0x8000 + 2 * (k + 2) ≡ 0x8000 + 2 * address Q plan (sleep_cost g.board) x
+      → (plan.has_head (spot_of Q x) ≡ true) × (0x8000 + 2 * k ≡ 0x8000 + 2 * plan.at (spot_of Q x) + 18)
+  resumed_by (Before q) k operations few pc = absurd (omega (arith, few))
+  resumed_by (Behind q) k operations few pc = by_head (plan.has_head q) few pc
+    where
+      by_head : (c : Bool) → operations + 1 + (if c then 0 else 1) ≤ operations + 1 → 0x8000 + 2 * (k + 2) ≡ 0x8000 + 2 * (if c then plan.at q + 11 else plan.at q) → (c ≡ true) × (0x8000 + 2 * k ≡ 0x8000 + 2 * plan.at q + 18)
+      by_head true less behind = (refl, omega (arith, behind))
+      by_head false less behind = absurd (omega (arith, less))
+
+  pub rests_wait : ((o : ℕ) → IsClear (InFram (plan.base o)) (words o)) → (left k sp taken operations : ℕ) (f : ℕ → ℕ) (put : List ℕ) (u s : State) → f 0xC00 ≡ 1 → f 0xC01 ≡ 0x8000 + 2 * k → Resumed g k sp taken f u
+      → At (Position Q) Q flow words L g does Tracks left (operations + 1) operations put u → (s.phase ≡ Off) ⊎ (s.phase ≡ Asleep) → s.fram ≡ f → Shown operations s
+  rests_wait clear left k sp taken operations f put u s opened resume resumed at phase same =
+      let behind = resumed_by at.x k operations at.timely (sym resumed.pc ∙ at.here.pc) in
+      record {
+        q = spot_of Q at.x;
+        m = at.m;
+        taken = u.taken;
+        put = put;
+        tracks = at.tracks;
+        there = there_by left (operations + 1) operations put u at.x at.here.counted;
+        stands = inr (phase, ap (λ h. h 0xC00) same ∙ opened, behind.0, ap (λ h. h 0xC01) same ∙ resume ∙ behind.1);
+        held = λ o i low.
+            ap (λ h. h (plan.base o + i)) same
+            ∙ sym (set_at_other f 0xC00 0 (plan.base o + i) (λ e. let above = (clear o).0 in omega (arith, e, above)))
+            ∙ sym (ap (λ h. h (plan.base o + i)) resumed.has_fram)
+            ∙ at.here.held o (InFram (plan.base o)) refl i low;
+      }
+
+  pub chosen_ties : ((o : ℕ) → IsClear (InFram (plan.base o)) (words o)) → Tied g (At (Position Q) Q flow words L g does Tracks) Shown
+  chosen_ties clear = record { works = points_work; waits = rests_wait clear }

@@ -11,19 +11,21 @@ use Rattle.msp430_machine.specs.State.{State}
 use Rattle.msp430_machine.specs.First.{IsFirst, HoldsBlocks}
 use Rattle.power_core.specs.Agreement.{Agrees}
 use Rattle.power_core.specs.Enduring.{Endures}
+use Rattle.power_core.specs.Runs.{Event, Trail, Generous, RunOf}
 use Rattle.power_core.proofs.Points.{Setting}
 use Rattle.power_core.proofs.Stands.{words_front}
 use Rattle.resumed_runs.specs.Code.{boot, head, size_of}
 use Rattle.resumed_runs.specs.Carries.{Carries}
+use Rattle.resumed_runs.specs.Counts.{IsCounted}
 use Rattle.resumed_runs.specs.Bytes.{bytes_of}
 use Rattle.resumed_runs.specs.Need.{wake_cost, sleep_cost}
-use Rattle.resumed_runs.proofs.Agreeing.{setting, IsCarried, agree, endure}
-use Rattle.resumed_runs.proofs.Carrying.{Points}
+use Rattle.resumed_runs.proofs.Agreeing.{setting, IsCarried, agree, each_charge_works, endure}
+use Rattle.resumed_runs.proofs.Carrying.{Points, Tied}
 use Rattle.resumed_runs.proofs.Paths.{Stand, stand, stand_front, stand_back}
 use Rattle.resumed_runs.proofs.WordBytes.{words_from_bytes}
 use Rattle.laid_code.specs.Flows.{Memory, On, Away, Flow}
 use Rattle.laid_code.specs.Chosen.{Piece, head_size, head_code, chosen_code, chosen_at, head_at, template_of, chosen_blocks}
-use Rattle.laid_code.proofs.ChosenHeads.{Position, Behind, Plan, budget, landing, chosen_layout, ChosenStands, chosen_carries, chosen_begins}
+use Rattle.laid_code.proofs.ChosenHeads.{Position, Behind, Plan, budget, landing, chosen_layout, ChosenStands, Shown, chosen_carries, chosen_begins, chosen_ties}
 use Rattle.laid_code.proofs.Following.{Tracking, Follows}
 use Rattle.laid_code.proofs.Homes.{InFram, IsClear, Apart}
 use Rattle.laid_code.proofs.Laid.{Here, effect_at, Performed}
@@ -70,7 +72,7 @@ abbrev pub Templates : (Q : Type 0) → List Piece → (Q → ℕ) → (ℕ → 
 Templates Q ts index code = (q : Q) → index q < length ts → Stand code (chosen_at 9 ts (index q) + head_size (head_at ts (index q))) (template_of ts (index q))
 
 module _ (Q : Type 0) (flow : Flow Q) (words : ℕ → ℕ) (b : Board) (whole : ℕ) (data_blocks : List Block) (ts : List Piece) (index : Q → ℕ) (weight left : Q → ℕ) (base : ℕ → ℕ)
-    (program : Behaviour) (nodes : ℕ) (does : State → Behaviour) (Tracks : List ℕ → State → Tracking Q) where
+    (program : Behaviour) (nodes : ℕ) (does : State → Behaviour) (Tracks : List ℕ → State → Tracking Q) (Shows : List ℕ → State → ℕ → State → Type 0) where
   abbrev plan : Plan Q
   plan = chosen_plan Q ts index weight left base
 
@@ -104,6 +106,9 @@ module _ (Q : Type 0) (flow : Flow Q) (words : ℕ → ℕ) (b : Board) (whole :
     pub follows : (input : List ℕ) (s : State) → All (λ w. w < 65536) input → IsFirst s → HoldsBlocks s (chosen_blocks data_blocks ts) → Follows Q flow (does s) input words (Tracks input s)
     pub begins : (input : List ℕ) (s : State) → All (λ w. w < 65536) input → IsFirst s → HoldsBlocks s (chosen_blocks data_blocks ts) → Tracks input s 0 first (λ o i. s.fram (base o + i)) 0 []
     pub carries : (input : List ℕ) (s : State) → All (λ w. w < 65536) input → IsFirst s → HoldsBlocks s (chosen_blocks data_blocks ts) → Carries program (does s) nodes input
+    -- and states show where it is
+    pub shows : (input : List ℕ) (s : State) → IsFirst s → HoldsBlocks s (chosen_blocks data_blocks ts) → (operations : ℕ) (u : State)
+        → Shown Q flow words plan (g input s.code) (does s) (Tracks input s) operations u → Shows input s operations u
 
   module _ (is : IsChosenImage) where
     abbrev points : List ℕ → State → Points
@@ -113,7 +118,7 @@ module _ (Q : Type 0) (flow : Flow Q) (words : ℕ → ℕ) (b : Board) (whole :
     first_at [] i e = refl
     first_at (t ∷ ts') i e = ap (λ j. chosen_at 9 (t ∷ ts') j) e
 
-    is_carried : (input : List ℕ) (s : State) → All (λ w. w < 65536) input → IsFirst s → HoldsBlocks s (chosen_blocks data_blocks ts) → IsCarried (g input s.code) (does s) (points input s) s
+    is_carried : (input : List ℕ) (s : State) → All (λ w. w < 65536) input → IsFirst s → HoldsBlocks s (chosen_blocks data_blocks ts) → IsCarried (g input s.code) (does s) (points input s) (Shows input s) s
     is_carried input s small first holds =
         let back = holds_back s data_blocks (record { start = code_start; bytes = bytes_of (flat_map words_of (boot ++ chosen_code 9 ts)) } ∷ record { start = reset_vector; bytes = bytes_of (code_start ∷ []) } ∷ []) holds.1 in
         let text = words_from_bytes s 0 (flat_map words_of (boot ++ chosen_code 9 ts)) back.0 in
@@ -130,7 +135,13 @@ module _ (Q : Type 0) (flow : Flow Q) (words : ℕ → ℕ) (b : Board) (whole :
           performs = is.performs input s.code small (λ q low. template_stands s.code 9 ts (index q) low each);
         } in
         let follow = is.follows input s small first holds in
+        let ties : Tied (g input s.code) (points input s) (Shown Q flow words plan (g input s.code) (does s) (Tracks input s)) = chosen_ties Q flow words plan (g input s.code) (does s) (Tracks input s) is.clear in
         record {
+          tied = record {
+            works = λ need wakes operations put u point. is.shows input s first holds operations u (ties.works need wakes operations put u point);
+            waits = λ left k sp taken operations f put u v opened resume resumed point off same.
+                is.shows input s first holds operations v (ties.waits left k sp taken operations f put u v opened resume resumed point off same);
+          };
           carried = chosen_carries Q flow words plan (g input s.code) (does s) (Tracks input s) stands follow;
           has_boot = record {
             text = words_front s.code 0 (flat_map words_of boot) (flat_map words_of (chosen_code 9 ts)) text;
@@ -141,7 +152,12 @@ module _ (Q : Type 0) (flow : Flow Q) (words : ℕ → ℕ) (b : Board) (whole :
         }
 
     pub chosen_agrees : whole ≤ b.budget → Agrees program nodes (chosen_blocks data_blocks ts) b
-    chosen_agrees enough = agree b (chosen_blocks data_blocks ts) whole program nodes does is.carries points is_carried enough
+    chosen_agrees enough = agree b (chosen_blocks data_blocks ts) whole program nodes does is.carries points Shows is_carried enough
+
+    -- each charge that another refill follows does at least one operation, and states show it
+    pub chosen_works : whole ≤ b.budget → (input : List ℕ) (events : List Event) (t : Trail) → All (λ w. w < 65536) input → Generous b.budget events
+        → (run : RunOf (chosen_blocks data_blocks ts) b input events t) → IsCounted b input (does run.0) (Shows input run.0) run.0 events t
+    chosen_works enough input events t words generous run = each_charge_works b (chosen_blocks data_blocks ts) whole program nodes does is.carries points Shows is_carried enough input events t words generous run
 
     pub chosen_endures : Endures program nodes (chosen_blocks data_blocks ts) b
-    chosen_endures = endure b (chosen_blocks data_blocks ts) whole program nodes does is.carries points is_carried
+    chosen_endures = endure b (chosen_blocks data_blocks ts) whole program nodes does is.carries points Shows is_carried

@@ -140,6 +140,7 @@ module _ (X Q : Type 0) (flow : Flow Q) (words : ℕ → ℕ) (L : Layout X Q) (
         takes = p.takes;
         enough = (let pays = leads.pays (s.reg 10) at.here.counted in let same = ap (λ n. L.budget to (written at.m e.change) n) gone.same_count in let n = at.enough in omega (arith, p.cost, pays, same, n));
         few = omega arith;
+        least = omega arith;
         leads = record {
           x = to;
           m = written at.m e.change;
@@ -228,6 +229,7 @@ module _ (X Q : Type 0) (flow : Flow Q) (words : ℕ → ℕ) (L : Layout X Q) (
             takes = p.takes;
             enough = (let pays = p.pays in let n = at.enough in omega (arith, pays, n));
             few = omega arith;
+            least = omega arith;
             leads = record {
               x = p.to;
               m = at.m;
@@ -295,6 +297,7 @@ module _ (X Q : Type 0) (flow : Flow Q) (words : ℕ → ℕ) (L : Layout X Q) (
         takes = takes;
         enough = pays;
         few = omega arith;
+        least = omega arith;
         leads = record {
           x = to;
           m = at.m;

@@ -6,3 +6,5 @@ pub mod Need
 pub mod Bytes
 -- what a flow of operations is to its program
 pub mod Carries
+-- operations counted along a run
+pub mod Counts
