@@ -1,0 +1,2 @@
+-- a graph that does what a program means carries it
+pub mod Carrying
