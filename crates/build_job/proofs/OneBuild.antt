@@ -1,16 +1,16 @@
 -- A build of files comes to one answer at most.
-use Rattle.std.proofs.Common.{◌≡◌, ◌<◌, ◌≤◌, ℕ, List, Option, sym, subst, ap, ap₂, ◌∙◌, refl, arith}
+use Rattle.std.proofs.Common.{◌≡◌, ℕ, List, Option, sym, subst, ap, ◌∙◌, refl}
 use Rattle.base_io.specs.Files.{Files}
 use Rattle.base_io.specs.declared.place.Place.{Place}
 use Rattle.board_table.specs.declared.board.Board.{Board}
-use Rattle.emit_layout.specs.Straight.{straight_need}
-use Rattle.straight_programs.specs.Shape.{IsStraight}
-use Rattle.straight_programs.proofs.Shapes.{one_shape}
-use Rattle.straight_programs.specs.declared.program.Statement.{Statement}
+use Rattle.ti_txt.specs.Image.{Block}
+use Rattle.c_tree.specs.declared.tree.Program.{Program}
+use Rattle.lowered_graphs.specs.GraphOf.{graph_of}
+use Rattle.graph_code.specs.Order.{IsAlone}
 use Rattle.job_files.specs.Answers.{Answer, IsDecided, done, refused, write_fault}
-use Rattle.job_files.specs.Boards.{IsBoardWith, IsNoBoard}
+use Rattle.job_files.specs.Boards.{IsNoBoard}
 use Rattle.job_files.specs.Reads.{AreHad, two_texts}
-use Rattle.job_files.specs.Refusals.{Refusal, board_refused, form_not_built, needs_checkpoint, program_refused}
+use Rattle.job_files.specs.Refusals.{Refusal, board_refused, form_not_built, program_refused}
 use Rattle.job_files.specs.Text.{Text}
 use Rattle.job_files.specs.declared.refusal.BoardRefusal.{BoardRefusal}
 use Rattle.job_files.specs.declared.refusal.ProgramRefusal.{ProgramRefusal}
@@ -19,19 +19,17 @@ use Rattle.job_files.proofs.OneFinding.{Finding, found, one_finding, reading_fou
 use Rattle.program_files.specs.Programs.{IsNoProgram}
 use Rattle.program_files.proofs.OneProgram.{no_program_same, program_or, same_program}
 use Rattle.build_job.specs.Build.{Build, build_files}
-use Rattle.build_job.specs.Building.{BuildCauses, IsFine, IsTooDear, RefusesBuildFiles}
-use Rattle.build_job.specs.Programs.{IsOtherText, IsStraightText}
+use Rattle.build_job.specs.Building.{AreGiven, BuildCauses, IsFine, RefusesBuildFiles}
+use Rattle.build_job.specs.Images.{RefusesGraph}
+use Rattle.build_job.specs.Programs.{IsLoneText, IsOtherText}
+use Rattle.build_job.proofs.OneImage.{one_refusal, refused_or_emitted}
 
 -- ---- A text comes to one reading
 
 module _ (text : Text) where
-  -- a text of one stretch has one list of statements, and isn't of another form
-  same_statements : (xs ys : List Statement) → IsStraightText text xs → IsStraightText text ys → xs ≡ ys
-  same_statements xs ys h k =
-      one_shape k.program xs ys (subst (λ p. IsStraight p xs) (same_program text h.program k.program h.is_text k.is_text) h.straight) k.straight
-
-  not_other : (xs : List Statement) → IsOtherText text → IsStraightText text xs → ⊥
-  not_other xs (p, t, other) k = other xs (subst (λ q. IsStraight q xs) (same_program text k.program p k.is_text t) k.straight)
+  -- a text whose `main` calls nothing isn't of another form
+  not_other : (p : Program) → IsOtherText text → IsLoneText text p → ⊥
+  not_other p (q, t, other) k = other (subst (λ x. IsAlone (graph_of x)) (same_program text p q k.is_text t) k.alone)
 
 -- ---- Two texts come to one answer
 
@@ -39,63 +37,58 @@ module _ (text : Text) where
 data Verdict (wanted : Option ℕ) (text bytes : Text) : Answer → Type 0 where
   no_text : (f : ProgramRefusal) (at : Place) → IsNoProgram text f at → Verdict wanted text bytes (refused (program_refused f at))
   none : IsOtherText text → Verdict wanted text bytes (refused form_not_built)
-  board : (statements : List Statement) (kind : BoardRefusal) (key : Text) → IsStraightText text statements → IsNoBoard bytes kind key → Verdict wanted text bytes (refused (board_refused kind key))
-  dear : (need budget : ℕ) → IsTooDear wanted text bytes need budget → Verdict wanted text bytes (refused (needs_checkpoint need budget))
-  fine : (statements : List Statement) (b : Board) → IsFine wanted text bytes statements b → Verdict wanted text bytes done
+  board : (p : Program) (kind : BoardRefusal) (key : Text) → IsLoneText text p → IsNoBoard bytes kind key → Verdict wanted text bytes (refused (board_refused kind key))
+  lacks : (p : Program) (b : Board) (r : Refusal) → AreGiven wanted text bytes p b → RefusesGraph b (graph_of p) r → Verdict wanted text bytes (refused r)
+  fine : (p : Program) (b : Board) (image : List Block) → IsFine wanted text bytes p b image → Verdict wanted text bytes done
 
 module _ (wanted : Option ℕ) (text bytes : Text) where
-  no_program_verdict : IsOtherText text → (a : Answer) → Verdict wanted text bytes a → refused form_not_built ≡ a
-  no_program_verdict other _ (no_text f at h) = absurd (program_or text other.0 f at other.1 h)
-  no_program_verdict other _ (none h) = refl
-  no_program_verdict other _ (board statements kind key p h) = absurd (not_other text statements other p)
-  no_program_verdict other _ (dear need budget h) = absurd (not_other text h.statements other h.program)
-  no_program_verdict other _ (fine statements b h) = absurd (not_other text statements other h.program)
-
   fault_verdict : (f : ProgramRefusal) (at : Place) → IsNoProgram text f at → (a : Answer) → Verdict wanted text bytes a → refused (program_refused f at) ≡ a
   fault_verdict f at h _ (no_text g place k) = ap refused (no_program_same text f g at place h k)
   fault_verdict f at h _ (none other) = absurd (program_or text other.0 f at other.1 h)
-  fault_verdict f at h _ (board statements kind key p k) = absurd (program_or text p.program f at p.is_text h)
-  fault_verdict f at h _ (dear need budget k) = absurd (program_or text k.program.program f at k.program.is_text h)
-  fault_verdict f at h _ (fine statements b k) = absurd (program_or text k.program.program f at k.program.is_text h)
+  fault_verdict f at h _ (board p kind key t k) = absurd (program_or text p f at t.is_text h)
+  fault_verdict f at h _ (lacks p b r given k) = absurd (program_or text p f at given.program.is_text h)
+  fault_verdict f at h _ (fine p b image k) = absurd (program_or text p f at k.given.program.is_text h)
 
-  board_verdict : (statements : List Statement) (kind : BoardRefusal) (key : Text) → IsStraightText text statements → IsNoBoard bytes kind key → (a : Answer) → Verdict wanted text bytes a → refused (board_refused kind key) ≡ a
-  board_verdict statements kind key p h _ (no_text f at k) = absurd (program_or text p.program f at p.is_text k)
-  board_verdict statements kind key p h _ (none k) = absurd (not_other text statements k p)
-  board_verdict statements kind key p h _ (board others also keys q k) =
-      ap refused (no_board_same bytes kind also key keys h k)
-  board_verdict statements kind key p h _ (dear need budget k) = absurd (board_or wanted bytes k.board kind key k.board_file h)
-  board_verdict statements kind key p h _ (fine others b k) = absurd (board_or wanted bytes b kind key k.board_file h)
+  other_verdict : IsOtherText text → (a : Answer) → Verdict wanted text bytes a → refused form_not_built ≡ a
+  other_verdict other _ (no_text f at h) = absurd (program_or text other.0 f at other.1 h)
+  other_verdict other _ (none h) = refl
+  other_verdict other _ (board p kind key t k) = absurd (not_other text p other t)
+  other_verdict other _ (lacks p b r given k) = absurd (not_other text p other given.program)
+  other_verdict other _ (fine p b image k) = absurd (not_other text p other k.given.program)
 
-  -- what a program and a board need is one number
-  needs_same : (xs ys : List Statement) (b c : Board) → IsStraightText text xs → IsStraightText text ys → IsBoardWith wanted bytes b → IsBoardWith wanted bytes c → straight_need b xs ≡ straight_need c ys
-  needs_same xs ys b c p q h k = ap₂ straight_need (one_board_with wanted bytes b c h k) (same_statements text xs ys p q)
+  board_verdict : (p : Program) (kind : BoardRefusal) (key : Text) → IsLoneText text p → IsNoBoard bytes kind key → (a : Answer) → Verdict wanted text bytes a → refused (board_refused kind key) ≡ a
+  board_verdict p kind key t h _ (no_text f at k) = absurd (program_or text p f at t.is_text k)
+  board_verdict p kind key t h _ (none k) = absurd (not_other text p k t)
+  board_verdict p kind key t h _ (board q also keys u k) = ap refused (no_board_same bytes kind also key keys h k)
+  board_verdict p kind key t h _ (lacks q b r given k) = absurd (board_or wanted bytes b kind key given.board_file h)
+  board_verdict p kind key t h _ (fine q b image k) = absurd (board_or wanted bytes b kind key k.given.board_file h)
 
-  dear_verdict : (need budget : ℕ) → IsTooDear wanted text bytes need budget → (a : Answer) → Verdict wanted text bytes a → refused (needs_checkpoint need budget) ≡ a
-  dear_verdict need budget h _ (no_text f at k) = absurd (program_or text h.program.program f at h.program.is_text k)
-  dear_verdict need budget h _ (none k) = absurd (not_other text h.statements k h.program)
-  dear_verdict need budget h _ (board statements kind key p k) = absurd (board_or wanted bytes h.board kind key h.board_file k)
-  dear_verdict need budget h _ (dear also budgets k) =
-      ap₂ (λ x y. refused (needs_checkpoint x y))
-      (h.needs ∙ needs_same h.statements k.statements h.board k.board h.program k.program h.board_file k.board_file ∙ sym k.needs)
-      (h.has ∙ ap (λ (b : Board). b.budget) (one_board_with wanted bytes h.board k.board h.board_file k.board_file) ∙ sym k.has)
-  dear_verdict need budget h _ (fine statements b k) =
-      let n = h.needs ∙ needs_same h.statements statements h.board b h.program k.program h.board_file k.board_file in
-      let m = h.has ∙ ap (λ (b : Board). b.budget) (one_board_with wanted bytes h.board b h.board_file k.board_file) in
-      absurd (above need budget (straight_need b statements) b.budget n m h.dear k.fits)
-    where
-      above : (n m k l : ℕ) → n ≡ k → m ≡ l → m < n → k ≤ l → ⊥
-      above n m k l e f lt le = omega arith
+  -- a program and a board are one
+  refused_here : (p q : Program) (b c : Board) (r : Refusal) → AreGiven wanted text bytes p b → AreGiven wanted text bytes q c → RefusesGraph b (graph_of p) r → RefusesGraph c (graph_of q) r
+  refused_here p q b c r x y h =
+      subst (λ z. RefusesGraph z (graph_of q) r) (one_board_with wanted bytes b c x.board_file y.board_file)
+      (subst (λ z. RefusesGraph b (graph_of z) r) (same_program text p q x.program.is_text y.program.is_text) h)
+
+  lacks_verdict : (p : Program) (b : Board) (r : Refusal) → AreGiven wanted text bytes p b → RefusesGraph b (graph_of p) r → (a : Answer) → Verdict wanted text bytes a → refused r ≡ a
+  lacks_verdict p b r given h _ (no_text f at k) = absurd (program_or text p f at given.program.is_text k)
+  lacks_verdict p b r given h _ (none k) = absurd (not_other text p k given.program)
+  lacks_verdict p b r given h _ (board q kind key t k) = absurd (board_or wanted bytes b kind key given.board_file k)
+  lacks_verdict p b r given h _ (lacks q c s also k) = ap refused (one_refusal c (graph_of q) r s (refused_here p q b c r given also h) k)
+  lacks_verdict p b r given h _ (fine q c image k) = absurd (refused_or_emitted c (graph_of q) r image (refused_here p q b c r given k.given h) k.emitted)
+
+  fine_verdict : (p : Program) (b : Board) (image : List Block) → IsFine wanted text bytes p b image → (a : Answer) → Verdict wanted text bytes a → done ≡ a
+  fine_verdict p b image h _ (no_text f at k) = absurd (program_or text p f at h.given.program.is_text k)
+  fine_verdict p b image h _ (none k) = absurd (not_other text p k h.given.program)
+  fine_verdict p b image h _ (board q kind key t k) = absurd (board_or wanted bytes b kind key h.given.board_file k)
+  fine_verdict p b image h _ (lacks q c r given k) = absurd (refused_or_emitted b (graph_of p) r image (refused_here q p c b r given h.given k) h.emitted)
+  fine_verdict p b image h _ (fine q c other k) = refl
 
 one_verdict : (wanted : Option ℕ) (text bytes : Text) (a b : Answer) → Verdict wanted text bytes a → Verdict wanted text bytes b → a ≡ b
 one_verdict wanted text bytes _ b (no_text f at h) k = fault_verdict wanted text bytes f at h b k
-one_verdict wanted text bytes _ b (none h) k = no_program_verdict wanted text bytes h b k
-one_verdict wanted text bytes _ b (board statements kind key p h) k = board_verdict wanted text bytes statements kind key p h b k
-one_verdict wanted text bytes _ b (dear need budget h) k = dear_verdict wanted text bytes need budget h b k
-one_verdict wanted text bytes _ b (fine statements c h) (no_text f at k) = absurd (program_or text h.program.program f at h.program.is_text k)
-one_verdict wanted text bytes _ b (fine statements c h) (none k) = absurd (not_other text statements k h.program)
-one_verdict wanted text bytes _ b (fine statements c h) (board others kind key p k) = absurd (board_or wanted bytes c kind key h.board_file k)
-one_verdict wanted text bytes _ b (fine statements c h) (dear need budget k) = sym (dear_verdict wanted text bytes need budget k done (fine statements c h))
-one_verdict wanted text bytes _ b (fine statements c h) (fine others d k) = refl
+one_verdict wanted text bytes _ b (none h) k = other_verdict wanted text bytes h b k
+one_verdict wanted text bytes _ b (board p kind key t h) k = board_verdict wanted text bytes p kind key t h b k
+one_verdict wanted text bytes _ b (lacks p c r given h) k = lacks_verdict wanted text bytes p c r given h b k
+one_verdict wanted text bytes _ b (fine p c image h) k = fine_verdict wanted text bytes p c image h b k
 
 -- ---- Files come to one answer
 
@@ -121,11 +114,10 @@ module _ (job : Build) (files : Files) where
   refused_found (program_refused fault place) h = texts_found h.0 h.1 (refused (program_refused fault place)) h.2 (no_text fault place h.3)
   refused_found form_not_built h = texts_found h.0 h.1 (refused form_not_built) h.2 (none h.3)
   refused_found (board_refused kind key) h = texts_found h.0 h.1 (refused (board_refused kind key)) h.2 (board h.3.0.0 kind key h.3.0.1 h.3.1)
-  refused_found (needs_checkpoint need budget) h = texts_found h.0 h.1 (refused (needs_checkpoint need budget)) h.2 (dear need budget h.3)
-  refused_found r h = absurd h.3
+  refused_found r h = texts_found h.0 h.1 (refused r) h.2 (lacks h.3.0 h.3.1 r h.3.2 h.3.3)
 
   build_finding : (a : Answer) → IsDecided a → BuildCauses job files a → BuildFinding a
-  build_finding done d (text, bytes, statements, b, r, h) = texts_found text bytes done r (fine statements b h)
+  build_finding done d h = texts_found h.text h.bytes done h.read (fine h.program h.board h.image h.fine)
   build_finding (write_fault name) d h = absurd d
   build_finding a d h = reading_found files (build_files job) (TextsCome job) (RefusesBuildFiles job files) refused_found a d h
 

@@ -15,38 +15,22 @@ use Rattle.build_job.specs.Parts.{IsReady, IsWritten}
 
 fine_told : (o : Option Files) (job : Build) (text line : Text) → IfSome o (λ files. IsReady job files text line) → IfSome o (λ files. AreFine job files)
 fine_told None job text line h = tt
-fine_told (Some files) job text line h = (h.program, h.bytes, h.statements, h.board, h.read, h.fine)
+fine_told (Some files) job text line h = h.are
 
 fine_named : (o : Option Files) (job : Build) (name text line : Text) → name ≡ job.image → IfSome o (λ files. IsReady job files text line)
     → IfSome o (λ files. (name ≡ job.image) × AreFine job files)
 fine_named None job name text line e h = tt
-fine_named (Some files) job name text line e h = (e, (h.program, h.bytes, h.statements, h.board, h.read, h.fine))
+fine_named (Some files) job name text line e h = (e, h.are)
 
 done_line : (o : Option Files) (job : Build) (text line : Text) → IfSome o (λ files. IsReady job files text line) → (code : ℕ) × (bytes : ℕ) × (line ≡ built_line code bytes) → IsDoneLine job o line
 done_line None job text line h any = any
-done_line (Some files) job text line h any = record {
-  text = h.program;
-  bytes = h.bytes;
-  statements = h.statements;
-  board = h.board;
-  read = h.read;
-  fine = h.fine;
-  tells = h.tells;
-}
+done_line (Some files) job text line h any = record { are = h.are; tells = h.spelled.tells }
 
 built_told : (o n : Option Files) (job : Build) (text line : Text) → IfSome o (λ files. IsReady job files text line) → WritesTold job.image text o n → IsBuiltTold job o n
 built_told None None job text line h w = tt
 built_told (Some old) None job text line h w = w
 built_told None (Some new) job text line h w = w
-built_told (Some old) (Some new) job text line h w = record {
-  text = h.program;
-  bytes = h.bytes;
-  statements = h.statements;
-  board = h.board;
-  read = h.read;
-  fine = h.fine;
-  written = subst (λ t. Writes job.image t old new) h.spelled w;
-}
+built_told (Some old) (Some new) job text line h w = record { are = h.are; written = subst (λ t. Writes job.image t old new) h.spelled.spelled w }
 
 module _ (job : Build) (old mid new : Seen) (files : mid.files ≡ old.files) (writes : mid.writes ≡ old.writes) (reads : mid.reads ≡ old.reads)
     (text line : Text) (ready : IfSome old.files (λ f. IsReady job f text line)) (any : (code : ℕ) × (bytes : ℕ) × (line ≡ built_line code bytes)) where

@@ -1,31 +1,24 @@
 -- How a build ends, by the store before and after.
-use Rattle.std.specs.Prelude.{◌≡◌, ◌==◌, ◌++◌, ◌*◌, ℕ, List, [], ◌∷◌, length, Option, Some, None, IfSome, if◌then◌else◌, codes, decimal, ⊤}
+use Rattle.std.specs.Prelude.{◌≡◌, ◌==◌, ◌++◌, ℕ, List, [], ◌∷◌, length, Option, Some, None, IfSome, if◌then◌else◌, codes, decimal, ⊤}
 use Rattle.base_io.specs.Files.{Files, Writes}
-use Rattle.board_table.specs.declared.board.Board.{Board}
 use Rattle.ti_txt.specs.Image.{Block}
 use Rattle.ti_txt.specs.Spelling.{text_of}
-use Rattle.emit_layout.specs.Operations.{objects_of}
-use Rattle.emit_layout.specs.Straight.{straight_blocks}
-use Rattle.straight_programs.specs.declared.program.Statement.{Statement}
+use Rattle.lowered_graphs.specs.GraphOf.{graph_of}
+use Rattle.graph_code.specs.Homes.{data_bytes}
 use Rattle.job_files.specs.Answers.{Answer, done, line_of, write_fault}
-use Rattle.job_files.specs.Reads.{AreHad, CountsReading, two_texts}
+use Rattle.job_files.specs.Reads.{CountsReading}
 use Rattle.job_files.specs.Stores.{IsFailedWrite, IsUnwritten, Seen}
 use Rattle.job_files.specs.Text.{Text}
 use Rattle.build_job.specs.Build.{Build, build_files}
-use Rattle.build_job.specs.Building.{BuildCauses, IsFine, RefusesBuild}
+use Rattle.build_job.specs.Building.{AreFine, BuildCauses, RefusesBuild}
 
 -- ---- What is left
 
--- The files are a program and a board on which it fits, and it was built: IMAGE holds the one text of the
--- program's image, and no other file changed.
+-- The files are a program and a board on which it has an image, and it was built: IMAGE holds the one text of that image, and no other
+-- file changed.
 pub record IsBuilt (job : Build) (old new : Files) : Type 0 where
-  pub text : Text
-  pub bytes : Text
-  pub statements : List Statement
-  pub board : Board
-  pub read : AreHad old (build_files job) (two_texts text bytes)
-  pub fine : IsFine job.budget text bytes statements board
-  pub written : Writes job.image (text_of (straight_blocks statements)) old new
+  pub are : AreFine job old
+  pub written : Writes job.image (text_of are.image) old new
 
 abbrev pub IsBuiltTold : Build → Option Files → Option Files → Type 0
 IsBuiltTold job (Some old) (Some new) = IsBuilt job old new
@@ -41,7 +34,7 @@ LeavesStore job old new a = IsUnwritten old new × CountsReading (build_files jo
 
 -- ---- The line
 
--- the line of a build that was done, by the bytes of its code from 0x8000 on and of its data: it has one chain
+-- the line of a build that was done, by the bytes of its code from 0x8000 on and of its data: it counts as one chain
 abbrev pub built_line : ℕ → ℕ → Text
 built_line code bytes = codes "built code " ++ (decimal code ++ (codes " data " ++ (decimal bytes ++ codes " chains 1\n")))
 
@@ -50,15 +43,10 @@ abbrev pub code_size : List Block → ℕ
 code_size [] = 0
 code_size (b ∷ rest) = if b.start == 0x8000 then length b.bytes else code_size rest
 
--- the line tells the size of the program's code
+-- the line tells the size of the image's code and of the program's objects
 pub record TellsSize (job : Build) (files : Files) (line : Text) : Type 0 where
-  pub text : Text
-  pub bytes : Text
-  pub statements : List Statement
-  pub board : Board
-  pub read : AreHad files (build_files job) (two_texts text bytes)
-  pub fine : IsFine job.budget text bytes statements board
-  pub tells : line ≡ built_line (code_size (straight_blocks statements)) (2 * objects_of statements)
+  pub are : AreFine job files
+  pub tells : line ≡ built_line (code_size are.image) (data_bytes (graph_of are.program))
 
 abbrev pub IsDoneLine : Build → Option Files → Text → Type 0
 IsDoneLine job (Some files) line = TellsSize job files line

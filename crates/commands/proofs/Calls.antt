@@ -1,7 +1,7 @@
 -- Each clause of the public call, from what the call comes to: its line was put, or a run or a say has begun.
 use Rattle.std.proofs.Common.{◌≡◌, ◌<◌, List, IfSome, inl, inr, subst}
 use Rattle.base_io.specs.Counts.{Rose}
-use Rattle.emit_layout.specs.StraightTheorem.{AreStraightHeld, AreStraightImages, TypedImagesAgree, TypedImagesEndure}
+use Rattle.lowered_images.specs.Images.{AreLoweredHeld, AreLoweredImages, LoweredImagesAgree, LoweredImagesEndure}
 use Rattle.commands.proofs.CallClauses as line
 use Rattle.commands.proofs.RunClauses as runs
 use Rattle.commands.proofs.SpokenClauses as says
@@ -80,7 +80,7 @@ module _ (words : List Text) (old new : Seen) (before left : List Box) (sunk now
   failed_write (inr (inl r)) = runs.failed_write words old new before left sunk now a r
   failed_write (inr (inr r)) = says.failed_write words old new before left sunk now a r
 
-  pub headline : TypedImagesAgree → TypedImagesEndure → AreStraightImages → AreStraightHeld → Called words old new before left sunk now a
+  pub headline : LoweredImagesAgree → LoweredImagesEndure → AreLoweredImages → AreLoweredHeld → Called words old new before left sunk now a
       → (job : Build) → AskBuild words job → a ≡ done → IsKeptTold words old.files new.files
   headline agree endure images held call job asks is =
       kept_told agree endure images held words job asks old.files new.files (subst (λ (x : Answer). LeavesTold words x old.files new.files) is (leaves call))

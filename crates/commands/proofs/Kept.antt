@@ -1,36 +1,48 @@
 -- A build that was done keeps the whole promise.
 use Rattle.std.proofs.Common.{List, Option, Some, None, ⊎_elim}
 use Rattle.base_io.specs.Files.{Files}
-use Rattle.emit_layout.specs.Straight.{straight_blocks}
-use Rattle.emit_layout.specs.StraightTheorem.{AreStraightHeld, AreStraightImages, TypedImagesAgree, TypedImagesEndure}
+use Rattle.lowered_images.specs.Images.{AreLoweredHeld, AreLoweredImages, IsImageOf, LoweredImagesAgree, LoweredImagesEndure}
 use Rattle.job_files.specs.Answers.{done}
 use Rattle.job_files.specs.Text.{Text}
 use Rattle.build_job.specs.Build.{Build}
+use Rattle.build_job.specs.Building.{AreFine}
 use Rattle.commands.specs.Headline.{IsKept, IsKeptTold}
 use Rattle.commands.specs.Left.{AskedAndBuilt, LeavesTold}
 use Rattle.commands.specs.Words.{AskBuild}
 use Rattle.commands.proofs.Asks.{build_or_run, build_or_say}
 
-module _ (agree : TypedImagesAgree) (endure : TypedImagesEndure) (images : AreStraightImages) (held : AreStraightHeld) (words : List Text) where
-  kept : (old new : Files) → AskedAndBuilt words old new → IsKept words old new
-  kept old new (job, e, b) = record {
-    job = job;
-    asks = e;
-    text = b.text;
-    program_file = b.read.0.there;
-    program = b.fine.program.program;
-    is_program = b.fine.program.is_text;
-    bytes = b.bytes;
-    board_file = b.read.1.0.there;
-    board = b.board;
-    is_board = b.fine.board_file;
-    image = straight_blocks b.statements;
-    is_image = images b.statements b.fine.program.straight.few;
-    held = held b.statements (b.fine.program.straight.valid, b.fine.program.straight.few);
-    written = b.written;
-    agrees = agree b.board b.fine.program.program b.statements b.fine.program.straight b.fine.fits;
-    endures = endure b.board b.fine.program.program b.statements b.fine.program.straight;
+module _ (agree : LoweredImagesAgree) (endure : LoweredImagesEndure) (images : AreLoweredImages) (held : AreLoweredHeld) (words : List Text) where
+  -- the image that was built is the image of its program
+  image_of : (job : Build) (files : Files) (h : AreFine job files) → IsImageOf h.board h.program h.image
+  image_of job files h = record {
+    sound = h.fine.given.program.sound;
+    scoped = h.fine.given.program.scoped;
+    few = h.fine.given.program.is_text.few;
+    alone = h.fine.given.program.alone;
+    emitted = h.fine.emitted;
   }
+
+  kept : (old new : Files) → AskedAndBuilt words old new → IsKept words old new
+  kept old new (job, e, b) =
+      let is = image_of job old b.are in
+      record {
+        job = job;
+        asks = e;
+        text = b.are.text;
+        program_file = b.are.read.0.there;
+        program = b.are.program;
+        is_program = b.are.fine.given.program.is_text;
+        bytes = b.are.bytes;
+        board_file = b.are.read.1.0.there;
+        board = b.are.board;
+        is_board = b.are.fine.given.board_file;
+        image = b.are.image;
+        is_image = images b.are.board b.are.program b.are.image is;
+        held = held b.are.board b.are.program b.are.image is;
+        written = b.written;
+        agrees = agree b.are.board b.are.program b.are.image is;
+        endures = endure b.are.board b.are.program b.are.image is;
+      }
 
   pub kept_told : (job : Build) → AskBuild words job → (old new : Option Files) → LeavesTold words done old new → IsKeptTold words old new
   kept_told job asks None None h = tt

@@ -29,9 +29,9 @@ ghost use Rattle.commands.specs.Words.{AskBuild, words_in};
 
 use base_io::{Memory, Sink, Store};
 use build_job::{BuildJob, build};
-use emit_layout::{straight_images_agree, typed_images_agree};
 use job_files::{Ending, Status, put_line, told};
 use job_parts::{Asked, Job, read_words};
+use lowered_images::lowered_images_agree;
 use run_job::{OpenedRun, RunJob, open_run, show_run};
 use say_job::{OpenedSay, SayJob, open_say, show_say};
 use std::alloc::Global;
@@ -93,8 +93,7 @@ pub fn schematic<S: Store, K: Sink>(
         (sunk_of K.taken K.faults sink.new)
         (answer_of result) }
 {
-    straight_images_agree();
-    typed_images_agree();
+    lowered_images_agree();
     run(alloc, words, store, supplies, sink)
 }
 

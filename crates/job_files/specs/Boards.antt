@@ -4,7 +4,6 @@ use Rattle.board_table.specs.Faults.{not_toml, missing, out_of_range, extra}
 use Rattle.board_table.specs.File.{IsBoardOf, IsRefused as IsRefusedBoard}
 use Rattle.board_table.specs.declared.board.Board.{Board}
 use Rattle.job_files.specs.declared.refusal.BoardRefusal.TheVariants as kind
-use Rattle.job_files.specs.Reads.{wanted}
 use Rattle.job_files.specs.Refusals.{Refusal, board_refused}
 use Rattle.job_files.specs.Text.{Text}
 use Rattle.job_files.specs.declared.refusal.BoardRefusal.{BoardRefusal}

@@ -1,5 +1,6 @@
 pub mod Text
 -- how a job may end
+pub mod Operations
 pub mod Refusals
 pub mod Answers
 -- what jobs read

@@ -1,6 +1,8 @@
 -- Why what the files of a job hold is refused, with the exit status and the line of each refusal.
 use Rattle.std.specs.Prelude.{ℕ, ◌++◌, codes, decimal, string_bytes}
 use Rattle.base_io.specs.declared.place.Place.{Place}
+use Rattle.flow_graph.specs.declared.graph.OpKind.{OpKind}
+use Rattle.job_files.specs.Operations.{operation_text}
 use Rattle.job_files.specs.declared.refusal.BoardRefusal.TheVariants.{NotToml, Missing, OutOfRange, Extra}
 use Rattle.job_files.specs.declared.refusal.ProgramRefusal.TheVariants as program
 use Rattle.job_files.specs.declared.refusal.ImageRefusal.TheVariants.{BadByte, Overlap, PastEnd, Unmapped, NoEnd}
@@ -17,7 +19,9 @@ pub data Refusal : Type 0 where
   board_refused : BoardRefusal → Text → Refusal
   image_refused : ImageRefusal → ℕ → Refusal
   text_refused : Text → ℕ → Refusal
-  needs_checkpoint : ℕ → ℕ → Refusal
+  data_too_large : ℕ → ℕ → Refusal
+  budget_too_small : OpKind → Place → ℕ → ℕ → Refusal
+  code_too_large : ℕ → ℕ → Refusal
 
 abbrev pub refusal_of : CodeRefusal → Refusal
 refusal_of (refusal.Program fault place) = program_refused fault place
@@ -25,7 +29,9 @@ refusal_of refusal.FormNotBuilt = form_not_built
 refusal_of (refusal.Board fault key) = board_refused fault (string_bytes key)
 refusal_of (refusal.Image fault at) = image_refused fault at
 refusal_of (refusal.Text name at) = text_refused (string_bytes name) at
-refusal_of (refusal.NeedsCheckpoint need budget) = needs_checkpoint need budget
+refusal_of (refusal.DataTooLarge need room) = data_too_large need room
+refusal_of (refusal.BudgetTooSmall op place need budget) = budget_too_small op place need budget
+refusal_of (refusal.CodeTooLarge need room) = code_too_large need room
 
 -- the exit status
 abbrev pub refusal_code : Refusal → ℕ
@@ -34,7 +40,9 @@ refusal_code form_not_built = 30
 refusal_code (board_refused fault key) = 7
 refusal_code (image_refused fault at) = 11
 refusal_code (text_refused name at) = 13
-refusal_code (needs_checkpoint need budget) = 31
+refusal_code (data_too_large need room) = 9
+refusal_code (budget_too_small op place need budget) = 8
+refusal_code (code_too_large need room) = 10
 
 -- `: FAULT KEY`; a document that isn't TOML has no key
 abbrev pub board_text : BoardRefusal → Text → Text
@@ -68,6 +76,7 @@ program_text program.BadAssign = codes "BadAssign"
 program_text program.NoMain = codes "NoMain"
 program_text program.Recursion = codes "Recursion"
 program_text program.TooMany = codes "TooMany"
+program_text program.TooManyOps = codes "TooManyOps"
 
 -- the line
 abbrev pub refusal_line : Refusal → Text
@@ -76,4 +85,7 @@ refusal_line form_not_built = codes "not built: program\n"
 refusal_line (board_refused fault key) = codes "board refused: " ++ (board_text fault key ++ codes "\n")
 refusal_line (image_refused fault at) = codes "image refused: " ++ (image_text fault ++ (codes " at " ++ (decimal at ++ codes "\n")))
 refusal_line (text_refused name at) = codes "text refused: " ++ (name ++ (codes " at " ++ (decimal at ++ codes "\n")))
-refusal_line (needs_checkpoint need budget) = codes "needs checkpoint: " ++ (decimal need ++ (codes " of " ++ (decimal budget ++ codes "\n")))
+refusal_line (data_too_large need room) = codes "data too large: " ++ (decimal need ++ (codes " of " ++ (decimal room ++ codes "\n")))
+refusal_line (budget_too_small op place need budget) =
+    codes "budget too small: " ++ (operation_text op ++ (codes " at " ++ (decimal place.line ++ (codes ":" ++ (decimal place.column ++ (codes " needs " ++ (decimal need ++ (codes " of " ++ (decimal budget ++ codes "\n")))))))))
+refusal_line (code_too_large need room) = codes "code too large: " ++ (decimal need ++ (codes " of " ++ (decimal room ++ codes "\n")))

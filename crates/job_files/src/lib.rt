@@ -7,6 +7,7 @@ mod files;
 mod images;
 mod inputs;
 mod limits;
+mod operations;
 mod refusal;
 mod status;
 

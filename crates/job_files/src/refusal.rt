@@ -1,8 +1,10 @@
 //! Why what the files of a job hold is refused. Each refusal has its code and its line here, and stands in the job that gives it.
 ghost use Rattle.std.specs.Prelude.{◌≡◌, IfOk, string_bytes};
-ghost use Rattle.job_files.specs.Refusals.{board_refused, image_refused, program_refused, program_text, refusal_code, refusal_line, refusal_of};
+ghost use Rattle.job_files.specs.Refusals.{board_refused, budget_too_small, image_refused, program_refused, program_text, refusal_code, refusal_line, refusal_of};
 
+use crate::operations::operation_name;
 use base_io::Place;
+use flow_graph::OpKind;
 use std::alloc::{AllocError, Global};
 
 /// Why a text is no program: the names of `program_texts::ProgramRefusal`.
@@ -25,6 +27,7 @@ pub enum ProgramRefusal {
     NoMain,
     Recursion,
     TooMany,
+    TooManyOps,
 }
 
 /// Why a board file is refused: the names of `board_table::BoardFault` without their keys.
@@ -50,17 +53,44 @@ pub enum ImageRefusal {
 #[derive(Debug, Drop)]
 pub enum Refusal {
     /// The text is no program; the first fault stands at `place`.
-    Program { fault: ProgramRefusal, place: Place },
+    Program {
+        fault: ProgramRefusal,
+        place: Place,
+    },
     /// The program is of a form that isn't built yet.
     FormNotBuilt,
     /// The board file is no board; `key` is the dotted path of the first key at fault, and empty for NotToml.
-    Board { fault: BoardRefusal, key: String },
+    Board {
+        fault: BoardRefusal,
+        key: String,
+    },
     /// The text is no image; `at` is an offset in bytes.
-    Image { fault: ImageRefusal, at: usize },
+    Image {
+        fault: ImageRefusal,
+        at: usize,
+    },
     /// The input or supply text isn't in its grammar; `at` is an offset in bytes.
-    Text { name: String, at: usize },
-    /// The program doesn't fit one charge: it needs so many energy units, and the board's budget is less.
-    NeedsCheckpoint { need: u64, budget: u64 },
+    Text {
+        name: String,
+        at: usize,
+    },
+    /// The objects of the program need so many bytes, and have room for fewer.
+    DataTooLarge {
+        need: u32,
+        room: u32,
+    },
+    /// An operation, which comes from `place`, needs so many energy units with a wake and a sleep, and the board's budget is less.
+    BudgetTooSmall {
+        op: OpKind,
+        place: Place,
+        need: u64,
+        budget: u64,
+    },
+    /// The code of the program needs so many bytes, and has room for fewer.
+    CodeTooLarge {
+        need: u32,
+        room: u32,
+    },
 }
 
 impl Refusal {
@@ -74,7 +104,9 @@ impl Refusal {
             Refusal::Board { .. } => 7,
             Refusal::Image { .. } => 11,
             Refusal::Text { .. } => 13,
-            Refusal::NeedsCheckpoint { .. } => 31,
+            Refusal::DataTooLarge { .. } => 9,
+            Refusal::BudgetTooSmall { .. } => 8,
+            Refusal::CodeTooLarge { .. } => 10,
         }
     }
 }
@@ -89,8 +121,17 @@ pub fn refusal_line(alloc: Global, refusal: &Refusal) -> Result<String, AllocErr
         Refusal::Board { fault, key } => board_line(alloc, *fault, key.as_str()),
         Refusal::Image { fault, at } => image_line(alloc, *fault, *at),
         Refusal::Text { name, at } => format!(in alloc; "text refused: {name} at {at}\n"),
-        Refusal::NeedsCheckpoint { need, budget } => {
-            format!(in alloc; "needs checkpoint: {need} of {budget}\n")
+        Refusal::DataTooLarge { need, room } => {
+            format!(in alloc; "data too large: {need} of {room}\n")
+        }
+        Refusal::BudgetTooSmall {
+            op,
+            place,
+            need,
+            budget,
+        } => budget_line(alloc, *op, *place, *need, *budget),
+        Refusal::CodeTooLarge { need, room } => {
+            format!(in alloc; "code too large: {need} of {room}\n")
         }
     }
 }
@@ -117,6 +158,7 @@ fn refusal_name(fault: ProgramRefusal) -> &'static str
         ProgramRefusal::NoMain => "NoMain",
         ProgramRefusal::Recursion => "Recursion",
         ProgramRefusal::TooMany => "TooMany",
+        ProgramRefusal::TooManyOps => "TooManyOps",
     }
 }
 
@@ -127,6 +169,21 @@ fn program_line(alloc: Global, fault: ProgramRefusal, place: Place) -> Result<St
     let name = refusal_name(fault);
     let Place { line, column } = place;
     format!(in alloc; "program refused: {name} at {line}:{column}\n")
+}
+
+// The line of an operation that needs more than the budget.
+fn budget_line(
+    alloc: Global,
+    op: OpKind,
+    place: Place,
+    need: u64,
+    budget: u64,
+) -> Result<String, AllocError>
+    ensures { IfOk result (λ line. string_bytes line ≡ refusal_line (budget_too_small op place need budget)) }
+{
+    let name = operation_name(op);
+    let Place { line, column } = place;
+    format!(in alloc; "budget too small: {name} at {line}:{column} needs {need} of {budget}\n")
 }
 
 // The line of a refused image.

@@ -1,18 +1,19 @@
 -- A text is that of one program, or has one first fault.
-use Rattle.std.proofs.Common.{◌≡◌, ◌∙◌, sym, ap, refl}
+use Rattle.std.proofs.Common.{◌≡◌, ◌∙◌, sym, ap, refl, subst}
 use Rattle.base_io.specs.declared.place.Place.{Place}
 use Rattle.c_tree.specs.declared.tree.Program.{Program}
-use Rattle.program_texts.specs.Front.{IsTextOf}
+use Rattle.program_texts.specs.Front.{HasFault, IsFault, IsTextOf}
 use Rattle.program_texts.specs.declared.fault.ProgramFault.{ProgramFault}
 use Rattle.program_texts.specs.declared.fault.ProgramFault.TheVariants.{Refused, Memory}
 use Rattle.program_texts.specs.declared.fault.ProgramRefusal.{ProgramRefusal as TextRefusal}
 use Rattle.program_texts.specs.declared.fault.ProgramRefusal.TheVariants as text
 use Rattle.program_texts.proofs.Readings.{one_reading}
 use Rattle.job_files.specs.declared.refusal.ProgramRefusal.TheVariants as kind
+use Rattle.job_files.specs.Answers.{Answer, IsRefusedFor}
 use Rattle.job_files.specs.Refusals.{Refusal, form_not_built, program_refused}
 use Rattle.job_files.specs.Text.{Text}
 use Rattle.job_files.specs.declared.refusal.ProgramRefusal.{ProgramRefusal}
-use Rattle.program_files.specs.Programs.{IsNoProgram, fault_of}
+use Rattle.program_files.specs.Programs.{IsNoProgram, IsRefusalOf, RefusesProgram, fault_of}
 
 abbrev name_of : TextRefusal → ProgramRefusal
 name_of text.BadByte = kind.BadByte
@@ -32,6 +33,7 @@ name_of text.BadAssign = kind.BadAssign
 name_of text.NoMain = kind.NoMain
 name_of text.Recursion = kind.Recursion
 name_of text.TooMany = kind.TooMany
+name_of text.TooManyOps = kind.TooManyOps
 
 named_back : (f : ProgramRefusal) → name_of (fault_of f) ≡ f
 named_back kind.BadByte = refl
@@ -51,6 +53,7 @@ named_back kind.BadAssign = refl
 named_back kind.NoMain = refl
 named_back kind.Recursion = refl
 named_back kind.TooMany = refl
+named_back kind.TooManyOps = refl
 
 abbrev refused_by : ProgramFault → Refusal
 refused_by (Refused f at) = program_refused (name_of f) at
@@ -72,3 +75,9 @@ module _ (text : Text) where
 
   pub same_program : (p q : Program) → IsTextOf text p → IsTextOf text q → p ≡ q
   same_program p q h k = (one_reading text).program p q h k
+
+  -- what is told of a fault refuses the text
+  pub told_as : (f : ProgramFault) (a : Answer) → IsFault text f → IsRefusalOf f a → IsRefusedFor (RefusesProgram text) a
+  told_as (Refused f at) a h (kind, named, is) =
+      subst (IsRefusedFor (RefusesProgram text)) (sym is) (subst (λ (x : TextRefusal). HasFault text (Refused x at)) (sym named) h)
+  told_as Memory a h is = subst (IsRefusedFor (RefusesProgram text)) (sym is) tt

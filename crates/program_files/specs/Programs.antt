@@ -1,10 +1,13 @@
 -- Texts that are no programs.
+use Rattle.std.specs.Prelude.{◌≡◌}
 use Rattle.base_io.specs.declared.place.Place.{Place}
 use Rattle.program_texts.specs.Front.{HasFault}
-use Rattle.program_texts.specs.declared.fault.ProgramFault.TheVariants.{Refused}
+use Rattle.program_texts.specs.declared.fault.ProgramFault.{ProgramFault}
+use Rattle.program_texts.specs.declared.fault.ProgramFault.TheVariants.{Refused, Memory}
 use Rattle.program_texts.specs.declared.fault.ProgramRefusal.{ProgramRefusal as TextRefusal}
 use Rattle.program_texts.specs.declared.fault.ProgramRefusal.TheVariants as text
 use Rattle.job_files.specs.declared.refusal.ProgramRefusal.TheVariants as kind
+use Rattle.job_files.specs.Answers.{Answer, no_memory, refused}
 use Rattle.job_files.specs.Refusals.{Refusal, program_refused}
 use Rattle.job_files.specs.Text.{Text}
 use Rattle.job_files.specs.declared.refusal.ProgramRefusal.{ProgramRefusal}
@@ -28,6 +31,7 @@ fault_of kind.BadAssign = text.BadAssign
 fault_of kind.NoMain = text.NoMain
 fault_of kind.Recursion = text.Recursion
 fault_of kind.TooMany = text.TooMany
+fault_of kind.TooManyOps = text.TooManyOps
 
 -- the text is no program: its first fault is of this name, and stands there
 abbrev pub IsNoProgram : Text → ProgramRefusal → Place → Type 0
@@ -37,3 +41,8 @@ IsNoProgram program fault place = HasFault program (Refused (fault_of fault) pla
 abbrev pub RefusesProgram : Text → Refusal → Type 0
 RefusesProgram program (program_refused fault place) = IsNoProgram program fault place
 RefusesProgram program r = ⊥
+
+-- the answer that tells a fault
+abbrev pub IsRefusalOf : ProgramFault → Answer → Type 0
+IsRefusalOf (Refused fault place) a = (kind : ProgramRefusal) × (fault_of kind ≡ fault) × (a ≡ refused (program_refused kind place))
+IsRefusalOf Memory a = a ≡ no_memory

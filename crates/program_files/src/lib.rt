@@ -1,6 +1,6 @@
-//! The program of a text, or the status that refuses it, for all jobs that read a program.
+//! The program of a text, or its graph, or the status that refuses it, for all jobs that read a program.
 #![tactic(auto)]
 
 mod program;
 
-pub use program::program_in;
+pub use program::{graph_in, program_in};

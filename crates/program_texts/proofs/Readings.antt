@@ -1,5 +1,5 @@
 -- A text has one reading.
-use Rattle.std.proofs.Common.{◌≡◌, ◌≢◌, ℕ, List, refl, sym, ap, subst, ◌∙◌}
+use Rattle.std.proofs.Common.{◌≡◌, ◌≢◌, ◌≤◌, ℕ, List, refl, sym, ap, subst, ◌∙◌, arith}
 use Rattle.base_io.specs.declared.place.Place.{Place}
 use Rattle.c_lex.specs.Cut.{Cut, Faulty}
 use Rattle.c_lex.specs.declared.token.Token.{Token}
@@ -17,10 +17,15 @@ use Rattle.c_tree.specs.declared.tree.Program.{Program}
 use Rattle.c_typing.specs.Programs.{Accepts, Refuses, found}
 use Rattle.c_typing.specs.declared.type_fault.TypeFault.{TypeFault}
 use Rattle.c_typing.specs.declared.type_fault.TypeFault.TheVariants as type
+use Rattle.lowered_graphs.specs.GraphOf.{operations, graph_of}
+use Rattle.c_lower.specs.Lowering.{IsRefused, place_in}
+use Rattle.c_lower.specs.declared.programs.LowerFault.{LowerFault}
+use Rattle.c_lower.specs.declared.programs.LowerFault.TheVariants as size
 use Rattle.program_texts.specs.declared.fault.ProgramRefusal.{ProgramRefusal}
+use Rattle.program_texts.specs.declared.fault.ProgramRefusal.TheVariants as refusal
 use Rattle.program_texts.specs.declared.fault.ProgramFault.{ProgramFault}
 use Rattle.program_texts.specs.declared.fault.ProgramFault.TheVariants.{Refused, Memory}
-use Rattle.program_texts.specs.Front.{Spells, IsTextOf, HasFault, IsFault, of_text, of_words, of_raw, of_tokens, of_tree, of_types}
+use Rattle.program_texts.specs.Front.{Spells, IsTextOf, IsTypedText, HasFault, IsFault, of_text, of_words, of_raw, of_graph, of_size, of_tokens, of_tree, of_types}
 use Rattle.program_texts.specs.Laws.{HasOneReading}
 use Rattle.program_texts.proofs.Syntax.{one_cause}
 use Rattle.program_texts.proofs.Types.{one_program, one_type_fault, typed_or_faulty}
@@ -60,6 +65,17 @@ module _ (text : List ℕ) where
       let P : Raw → Type 0 = λ raw. Refuses raw f in
       one_type_fault (found s) f g (subst P (same_raw r s a b) h) k
 
+  same_program : (r s : Raw) (p q : Program) → Spells text r → Spells text s → Accepts r p → Accepts s q → p ≡ q
+  same_program r s p q a b h k =
+      let P : Raw → Type 0 = λ raw. Accepts raw p in
+      one_program (found s) p q (subst P (same_raw r s a b) h) k
+
+  -- a tree with a type fault has no program
+  not_accepted : (r s : Raw) (f : TypeFault) (p : Program) → Spells text r → Spells text s → Refuses r f → Accepts s p → ⊥
+  not_accepted r s f p a b h k =
+      let P : Raw → Type 0 = λ raw. Refuses raw f in
+      typed_or_faulty (found s) p f k (subst P (same_raw r s a b) h)
+
   one_fault : (f g : ProgramFault) → f ≢ Memory → g ≢ Memory → HasFault text f → HasFault text g → f ≡ g
   one_fault f g n m (of_text a h e) (of_text b k d) = e ∙ ap of_tokens (same_fault text a b h k) ∙ sym d
   one_fault f g n m (of_text a h e) (of_words tokens b cut cause d) = absurd (cut_or_fault text tokens a cut h)
@@ -71,6 +87,15 @@ module _ (text : List ℕ) where
   one_fault f g n m (of_words tokens a cut cause e) (of_raw raw b s k d) = absurd (not_spelled tokens a raw (told_tree f a n e) cut cause s)
   one_fault f g n m (of_raw raw a s h e) (of_words tokens b cut cause d) = absurd (not_spelled tokens b raw (told_tree g b m d) cut cause s)
   one_fault f g n m (of_raw r a s h e) (of_raw q b t k d) = e ∙ ap of_types (types_same r q a b s t h k) ∙ sym d
+  one_fault f g n m (of_text a h e) (of_graph raw p c at s t big d) = absurd (cut_or_fault text s.tokens a s.cut h)
+  one_fault f g n m (of_graph raw p c at s t big e) (of_text b k d) = absurd (cut_or_fault text s.tokens b s.cut k)
+  one_fault f g n m (of_words tokens a cut cause e) (of_graph raw p c at s t big d) = absurd (not_spelled tokens a raw (told_tree f a n e) cut cause s)
+  one_fault f g n m (of_graph raw p c at s t big e) (of_words tokens b cut cause d) = absurd (not_spelled tokens b raw (told_tree g b m d) cut cause s)
+  one_fault f g n m (of_raw r a s h e) (of_graph raw p c at also t big d) = absurd (not_accepted r raw a p s also h t)
+  one_fault f g n m (of_graph raw p c at also t big e) (of_raw r a s h d) = absurd (not_accepted r raw a p s also h t)
+  one_fault f g n m (of_graph r p c x s h big e) (of_graph q o b y t k large d) =
+      let same : p ≡ o = same_program r q p o s t h k in
+      e ∙ ap (Refused refusal.TooManyOps) (big.place_of ∙ (ap (λ z. place_in (graph_of z) 4096) same ∙ sym large.place_of)) ∙ sym d
 
   not_both : (p : Program) (f : ProgramFault) → f ≢ Memory → IsTextOf text p → HasFault text f → ⊥
   not_both p f n t (of_text a h e) = cut_or_fault text t.spells.tokens a t.spells.cut h
@@ -78,6 +103,11 @@ module _ (text : List ℕ) where
   not_both p f n t (of_raw raw a s h e) =
       let P : Raw → Type 0 = λ x. Refuses x a in
       typed_or_faulty (found t.raw) p a t.typed (subst P (same_raw raw t.raw s t.spells) h)
+  not_both p f n t (of_graph raw q c at s h big e) =
+      let same : operations q ≡ operations p = ap operations (same_program raw t.raw q p s t.spells h t.typed) in
+      let few = t.few in
+      let above = big.many in
+      omega (arith, same, few, above)
 
   pub one_reading : HasOneReading text
   one_reading = record { program = one; fault = one_fault; either = not_both }
@@ -99,6 +129,14 @@ syntactic text tokens f fault e cut cause = is_fault text fault (λ n. of_words 
 
 pub typing : (text : List ℕ) (raw : Raw) (f : TypeFault) (fault : ProgramFault) → fault ≡ of_types f → Spells text raw → (f ≢ type.Memory → Refuses raw f) → IsFault text fault
 typing text raw f fault e s h = is_fault text fault (λ n. of_raw raw f s (h (λ is. n (e ∙ ap of_types is))) e)
+
+-- the whole text of a program that isn't too large
+pub whole : (text : List ℕ) (p : Program) → IsTypedText text p → operations p ≤ 4096 → IsTextOf text p
+whole text p (raw, spells, typed) few = record { raw = raw; spells = spells; typed = typed; few = few }
+
+pub sized : (text : List ℕ) (p : Program) → IsTypedText text p → (f : LowerFault) (fault : ProgramFault) → fault ≡ of_size f → IsRefused p f → IsFault text fault
+sized text p (raw, spells, typed) (size.TooManyOps count at) fault e big = is_fault text fault (λ n. of_graph raw p count at spells typed big e)
+sized text p t size.Memory fault e h = is_fault text fault (λ n. absurd (n e))
 
 -- what is answered is the only fault, and the text is no program
 pub has_fault : (text : List ℕ) (fault : ProgramFault) → fault ≢ Memory → IsFault text fault → HasFault text fault

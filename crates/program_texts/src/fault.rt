@@ -1,6 +1,6 @@
 use base_io::Place;
 
-/// Why a text is no program: the names of `LexFault`, `ParseFault` and `TypeFault` without their places.
+/// Why a text is no program: the names of `LexFault`, `ParseFault`, `TypeFault` and `LowerFault` without their places.
 #[derive(Clone, Copy, Debug, PartialEq, Eq)]
 pub enum ProgramRefusal {
     BadByte,
@@ -20,6 +20,7 @@ pub enum ProgramRefusal {
     NoMain,
     Recursion,
     TooMany,
+    TooManyOps,
 }
 
 /// Why a text gave no program.

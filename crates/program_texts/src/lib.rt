@@ -7,6 +7,6 @@ mod laws;
 mod showing;
 
 pub use fault::{ProgramFault, ProgramRefusal};
-pub use front::program_of;
+pub use front::{graph_of_text, program_of, typed_of};
 pub use laws::one_reading;
 pub use showing::show;

@@ -42,9 +42,8 @@ returns-clause-failed_write g c = calls.failed_write _ _ _ _ _ _ _ _ c.run.ensur
 
 pub returns-clause-headline : goal.returns-clause-headline
 returns-clause-headline g c job asks is =
-    let typed = c.typed_images_agree.ensures in
-    let held = c.straight_images_agree.ensures in
-    calls.headline _ _ _ _ _ _ _ _ typed.agrees typed.endures held.is_image held.is_held c.run.ensures job asks is
+    let law = c.lowered_images_agree.ensures in
+    calls.headline _ _ _ _ _ _ _ _ law.agrees law.endures law.is_image law.is_held c.run.ensures job asks is
 
 pub returns-clause-call : goal.returns-clause-call
 returns-clause-call g c = c.run.ensures

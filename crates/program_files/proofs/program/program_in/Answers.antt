@@ -1,10 +1,6 @@
-use Rattle.std.proofs.Common.{sym, subst}
-use Rattle.program_texts.specs.Front.{HasFault}
-use Rattle.program_texts.specs.declared.fault.ProgramFault.TheVariants.{Refused}
-use Rattle.program_texts.specs.declared.fault.ProgramRefusal.{ProgramRefusal as TextRefusal}
+use Rattle.job_files.specs.Answers.{answer_of}
+use Rattle.program_files.proofs.OneProgram.{told_as}
 use Rattle.program_files.proofs.program.program_in.Goals as goal
 
-pub returns-in-Err-Refused-clause-found : goal.returns-in-Err-Refused-clause-found
-returns-in-Err-Refused-clause-found c =
-    let h = rw c.in-Err-Refused.field-0-is at c.in-Err-Refused.ensures.fault in
-    subst (λ (f : TextRefusal). HasFault c.args.text.now (Refused f c.in-Err-Refused.place)) (sym c.named-fault.ensures) h
+pub returns-in-Err-clause-found : goal.returns-in-Err-clause-found
+returns-in-Err-clause-found c = told_as c.args.text.now c.in-Err.fault (answer_of c.refused.result) c.in-Err.ensures.fault c.refused.ensures

@@ -1,4 +1,0 @@
-pub mod Code
-pub mod Operations
-pub mod Straight
-pub mod StraightTheorem

@@ -1,0 +1,42 @@
+-- The names by which reports tell operations.
+use Rattle.std.specs.Prelude.{codes}
+use Rattle.flow_graph.specs.declared.graph.OpKind.{OpKind}
+use Rattle.flow_graph.specs.declared.graph.OpKind.TheVariants as kind
+use Rattle.job_files.specs.Text.{Text}
+
+abbrev pub operation_text : OpKind → Text
+operation_text kind.Copy = codes "copy"
+operation_text kind.Neg = codes "neg"
+operation_text kind.Inv = codes "inv"
+operation_text kind.ToU8 = codes "to_u8"
+operation_text kind.ToS8 = codes "to_s8"
+operation_text kind.Add = codes "add"
+operation_text kind.Sub = codes "sub"
+operation_text kind.BitAnd = codes "bit_and"
+operation_text kind.BitOr = codes "bit_or"
+operation_text kind.BitXor = codes "bit_xor"
+operation_text kind.Mul = codes "mul"
+operation_text kind.DivS = codes "div_s"
+operation_text kind.DivU = codes "div_u"
+operation_text kind.RemS = codes "rem_s"
+operation_text kind.RemU = codes "rem_u"
+operation_text kind.Shl = codes "shl"
+operation_text kind.ShrS = codes "shr_s"
+operation_text kind.ShrU = codes "shr_u"
+operation_text kind.Eq = codes "eq"
+operation_text kind.Ne = codes "ne"
+operation_text kind.LtS = codes "lt_s"
+operation_text kind.LtU = codes "lt_u"
+operation_text kind.LeS = codes "le_s"
+operation_text kind.LeU = codes "le_u"
+operation_text kind.Load = codes "load"
+operation_text kind.Store = codes "store"
+operation_text kind.Input = codes "input"
+operation_text kind.Output = codes "output"
+operation_text kind.Finish = codes "finish"
+operation_text kind.Test = codes "test"
+operation_text kind.Below = codes "below"
+operation_text kind.Step = codes "step"
+operation_text kind.Go = codes "go"
+operation_text kind.Call = codes "call"
+operation_text kind.Ret = codes "ret"
