@@ -14,6 +14,7 @@ use Rattle.flow_graph.specs.declared.graph.Graph.{Graph}
 use Rattle.flow_graph.specs.Rules.{CallsFit, Doing, doing, doing_all, doing_by, doing_in, doings, height_of}
 use Rattle.item_weights.specs.Weights.{Own, Weight, all_of, call, greater, item_weight, item_weights, items_weight, joined, plus, turns, weight_by}
 use Rattle.item_weights.specs.Flat.{AreFlats, FlatsAreFlats, Rule, flat_by, flats, flats_by, flats_to, next_flats, no_numbers, number_of}
+use Rattle.item_weights.proofs.WeightLevels.{weight_rolled}
 use Rattle.item_weights.proofs.FlatNumbers.{deeper, first_flats}
 
 -- ---- a weight asks only for the numbers of the functions that are called
@@ -76,12 +77,8 @@ module _ (own : Own) (fs hs : List (Option ℕ)) where
   unfolding doing
   doing_rolled x = fold-roll-Item Doing doing_by x
 
-  weight_rolled : (xs : List (Option ℕ)) (x : Item-F Item) → item_weight own xs (roll-Item x) ≡ weight_by own xs (map-Item Item (Option Weight) (item_weight own xs) x)
-  unfolding item_weight
-  weight_rolled xs x = fold-roll-Item (Option Weight) (weight_by own xs) x
-
   same_rolled : (x : Item-F Item) → SameLayer x → IsSame (roll-Item x)
-  same_rolled x h agree = weight_rolled fs x ∙ (h (subst (λ (d : Doing). Agree d.calls) (doing_rolled x) agree) ∙ sym (weight_rolled hs x))
+  same_rolled x h agree = weight_rolled own fs x ∙ (h (subst (λ (d : Doing). Agree d.calls) (doing_rolled x) agree) ∙ sym (weight_rolled own hs x))
 
   same_item : (x : Item) → IsSame x
   same_item = ind-Item IsSame (λ x y is. same_rolled x (subst SameLayer is (same_layer y)))
@@ -175,7 +172,7 @@ number_at rule main fs base [] k = refl
 number_at rule main fs base (x ∷ xs) zero = ap (λ f. Some (flat_by rule main fs f x)) (omega arith)
 number_at rule main fs base (x ∷ xs) (suc k) = number_at rule main fs (base + 1) xs k ∙ ap (λ f. option_map (flat_by rule main fs f) (slice_get xs k)) (omega arith)
 
-next_at : (rule : Rule) (g : Graph) (fs : List (Option ℕ)) (k : ℕ) → slice_get (next_flats rule g fs) k ≡ option_map (flat_by rule g.main fs k) (slice_get g.functions k)
+pub next_at : (rule : Rule) (g : Graph) (fs : List (Option ℕ)) (k : ℕ) → slice_get (next_flats rule g fs) k ≡ option_map (flat_by rule g.main fs k) (slice_get g.functions k)
 next_at rule g fs k = number_at rule g.main fs 0 g.functions k ∙ ap (λ f. option_map (flat_by rule g.main fs f) (slice_get g.functions k)) (zero-add k)
 
 none_at : (funcs : List Func) (k : ℕ) → slice_get funcs k ≡ None → slice_get (no_numbers funcs) k ≡ None

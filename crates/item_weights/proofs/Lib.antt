@@ -3,3 +3,4 @@ pub mod Tallying
 pub mod ToldUses
 pub mod FlatNumbers
 pub mod Heights
+pub mod Keeping

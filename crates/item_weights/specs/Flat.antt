@@ -1,6 +1,6 @@
 -- Which functions are flat: any but `main` whose body has a weight, so that it holds no loop of unknown count, no leave and no call of a function that
 -- isn't flat, and which fits one charge together with its call.
-use Rattle.std.specs.Prelude.{ℕ, zero, suc, ◌≡◌, ◌+◌, ◌==◌, nat_le, Option, Some, None, List, [], ◌∷◌, length, if◌then◌else◌}
+use Rattle.std.specs.Prelude.{ℕ, zero, suc, ◌≡◌, ◌+◌, ◌==◌, nat_le, Option, Some, None, List, [], ◌∷◌, length, slice_get, if◌then◌else◌}
 use Rattle.flow_graph.specs.declared.graph.Func.{Func}
 use Rattle.flow_graph.specs.declared.graph.Graph.{Graph}
 use Rattle.flow_graph.specs.Rules.{CallsFit}
@@ -44,6 +44,10 @@ flats_to rule g (suc depth) = next_flats rule g (flats_to rule g depth)
 -- Calls have no cycle, so that they are nested less deep than there are functions.
 abbrev pub flats : Rule → Graph → List (Option ℕ)
 flats rule g = flats_to rule g (length g.functions)
+
+-- each function that has a number among the first has it among the others
+abbrev pub Keep : List (Option ℕ) → List (Option ℕ) → Type 0
+Keep flats more = (f n : ℕ) → slice_get flats f ≡ Some (Some n) → slice_get more f ≡ Some (Some n)
 
 -- the law that makes it the rule: each function's number is what the rule says of the others' numbers
 abbrev pub AreFlats : Rule → Graph → List (Option ℕ) → Type 0

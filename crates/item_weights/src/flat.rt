@@ -1,12 +1,12 @@
 //! Which functions are flat, and what they cost.
 
-ghost use Rattle.std.specs.Prelude.{◌≡◌, ◌+◌, ◌++◌, ◌∷◌, [], ◌<◌, ◌≤◌, ◌^◌, ℕ, Option, None, IfOk, OnOk, IsTrue, length};
+ghost use Rattle.std.specs.Prelude.{◌≡◌, ◌+◌, ◌++◌, ◌∷◌, [], ◌<◌, ◌≤◌, ◌^◌, ℕ, Option, None, Some, IfOk, OnOk, IsTrue, length, slice_get};
 ghost use Rattle.item_weights.specs.Weights.{Weight};
 ghost use Rattle.item_weights.specs.Tallies.{IsTally};
-ghost use Rattle.item_weights.specs.Flat.{Rule, flat_by, flats, flats_by, next_flats, no_numbers};
+ghost use Rattle.item_weights.specs.Flat.{Keep, Rule, flat_by, flats, flats_by, next_flats, no_numbers};
 
 use crate::lists::first_and_rest;
-use crate::weighing::items_tally;
+use crate::weighing::{items_tally, number_in};
 use crate::{OwnWeights, Tally};
 use base_io::Memory;
 use flow_graph::{Func, Graph};
@@ -67,7 +67,26 @@ fn number_of<R: FlatRule>(
     }
 }
 
-/// The numbers of all functions, given those of the functions that they call.
+/// The number of one function, given those of the functions that it calls. One that has a number keeps it.
+fn next_number<R: FlatRule>(
+    alloc: Global,
+    rule: &R,
+    main: u32,
+    flats: &[Option<u64>],
+    function: u32,
+    func: &Func,
+    objects: u32,
+) -> Result<Option<u64>, Memory>
+    requires { (n : ℕ) → slice_get flats.now function ≡ Some (Some n) → flat_by (record { own = R.OwnWeights.own rule.now; number = R.number_by rule.now objects }) main flats.now function func.now ≡ Some n }
+    ensures { IfOk result (λ number. number ≡ flat_by (record { own = R.OwnWeights.own rule.now; number = R.number_by rule.now objects }) main flats.now function func.now) }
+{
+    match number_in(flats, function) {
+        Some(Some(number)) => Ok(Some(number)),
+        _ => number_of(alloc, rule, main, flats, function, func, objects),
+    }
+}
+
+/// The numbers of all functions, given those of the functions that they call. Those that have a number are not weighed again.
 fn next_numbers<R: FlatRule>(
     alloc: Global,
     rule: &R,
@@ -75,14 +94,15 @@ fn next_numbers<R: FlatRule>(
     flats: &[Option<u64>],
     objects: u32,
 ) -> Result<Vec<Option<u64>>, Memory>
-    requires { length g.now.functions < 2 ^ 32 }
+    requires functions { length g.now.functions < 2 ^ 32 }
+    requires kept { Keep flats.now (next_flats (record { own = R.OwnWeights.own rule.now; number = R.number_by rule.now objects }) g.now flats.now) }
     ensures { IfOk result (λ made. made.items ≡ next_flats (record { own = R.OwnWeights.own rule.now; number = R.number_by rule.now objects }) g.now flats.now) }
 {
     let mut made = Vec::new(alloc);
     let mut left = g.functions.as_slice();
     let mut function = 0;
     while let Some((func, rest)) = first_and_rest(left) {
-        let number = number_of(alloc, rule, g.main, flats, function, func, objects)?;
+        let number = next_number(alloc, rule, g.main, flats, function, func, objects)?;
         put_number(&mut made, number)?;
         function += 1;
         left = rest;

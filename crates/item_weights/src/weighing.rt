@@ -3,7 +3,7 @@
 ghost use Rattle.std.specs.Prelude.{◌≡◌, ◌+◌, ◌<◌, ◌≤◌, ◌^◌, ℕ, Option, IfOk, Some, None, length, slice_get, slice_index};
 ghost use Rattle.flow_graph.specs.declared.graph.Item.{out-Item};
 ghost use Rattle.item_weights.specs.Weights.{Weight, call, greater, items_weight, joined, no_weight, plus, times, turns, with_base, with_read, with_write};
-ghost use Rattle.item_weights.specs.Tallies.{IsPart, IsTally, weight_of_parts};
+ghost use Rattle.item_weights.specs.Tallies.{IsAdded, IsPart, IsTally, weight_of_parts};
 
 use crate::lists::first_and_rest;
 use crate::tally::{add_all, add_one, join_all, multiply_all, product, sum};
@@ -176,7 +176,8 @@ fn call_tally(mut tally: Tally, number: Option<Option<u64>>) -> Option<Tally>
     }
 }
 
-fn number_of(flats: &[Option<u64>], function: u32) -> Option<Option<u64>>
+/// The number of a function: none where it isn't flat, or isn't there.
+pub fn number_in(flats: &[Option<u64>], function: u32) -> Option<Option<u64>>
     ensures { result ≡ slice_get flats.now function }
 {
     flats.get(function as usize).copied()
@@ -225,9 +226,34 @@ fn item_tally<O: OwnWeights>(
         Item::Switch { items } => items_tally(alloc, own, flats, items.as_slice(), objects),
         Item::CallTo { op, function } => {
             let tally = own_tally(alloc, own, op, objects)?;
-            Ok(call_tally(tally, number_of(flats, *function)))
+            Ok(call_tally(tally, number_in(flats, *function)))
         }
         Item::Leave { op: _, to: _ } => Ok(None),
+    }
+}
+
+/// Adds what an item weighs to a tally, if it has a weight; else the tally is of no more use. An operation takes no tally of its own.
+#[cycle(weighing)]
+fn add_item<O: OwnWeights>(
+    alloc: Global,
+    own: &O,
+    flats: &[Option<u64>],
+    item: &Item,
+    objects: u32,
+    tally: &mut Tally,
+) -> Result<bool, Memory>
+    ensures { IfOk result (λ is_added. IsAdded objects (weight_of_parts (O.own own.now) flats.now (out-Item item.now)) is_added tally.old tally.new) }
+{
+    if let Item::One(op) = item {
+        own.add_to(op, tally);
+        return Ok(true);
+    }
+    match item_tally(alloc, own, flats, item, objects)? {
+        None => Ok(false),
+        Some(one) => {
+            add(tally, &one);
+            Ok(true)
+        }
     }
 }
 
@@ -245,9 +271,8 @@ pub fn items_tally<O: OwnWeights>(
     let mut tally = empty(alloc, objects)?;
     let mut left = items;
     while let Some((item, rest)) = first_and_rest(left) {
-        match item_tally(alloc, own, flats, item, objects)? {
-            None => return Ok(None),
-            Some(one) => add(&mut tally, &one),
+        if !add_item(alloc, own, flats, item, objects, &mut tally)? {
+            return Ok(None);
         }
         left = rest;
     }

@@ -1,7 +1,8 @@
-use Rattle.std.proofs.Common.{List, ℕ, length, ◌∙◌, ap, sym, arith}
+use Rattle.std.proofs.Common.{List, ℕ, length, ◌∙◌, ap, sym, subst, arith}
 use Rattle.std.specs.Prelude.{Option}
-use Rattle.item_weights.specs.Flat.{Rule, next_flats, no_numbers}
+use Rattle.item_weights.specs.Flat.{Keep, Rule, next_flats, no_numbers}
 use Rattle.item_weights.proofs.FlatNumbers.{first_flats, deeper, at_last}
+use Rattle.item_weights.proofs.Keeping.{flats_keep}
 use Rattle.item_weights.proofs.flat.flat_numbers.Goals as goal
 
 pub loop-depth-init : goal.loop-depth-init
@@ -24,3 +25,12 @@ returns-then-are_same g c =
     let same = sym c.as_slice-in-loop-depth-2.ensures.value ∙ (c.are_same.ensures c.if-are_same.true ∙ (c.as_slice-in-loop-depth-3.ensures.value ∙ c.loop-depth.invariant)) in
     let n = ap length c.as_slice-count.ensures in let lt = c.loop-depth-test.true in
     made ∙ at_last rule graph k (length graph.functions) (omega (arith, n, lt)) (sym made ∙ same)
+
+pub next_numbers-requires-clause-kept : goal.next_numbers-requires-clause-kept
+next_numbers-requires-clause-kept g c =
+    let graph = c.args.g.now in let k = c.loop-depth._depth in
+    let rule : ℕ → Rule = λ n. record { own = g.R.OwnWeights.own c.args.rule.now; number = g.R.FlatRule.number_by c.args.rule.now n } in
+    let now = c.as_slice-in-loop-depth.result.now in
+    let same = c.as_slice-in-loop-depth.ensures.value ∙ c.loop-depth.invariant in
+    let keep = subst (λ (xs : List (Option ℕ)). Keep xs (next_flats (rule (length graph.objects)) graph xs)) (sym same) (flats_keep (rule (length graph.objects)) graph k) in
+    subst (λ n. Keep now (next_flats (rule n) graph now)) (sym (ap length c.as_slice.ensures)) keep
