@@ -39,7 +39,7 @@ take_all [] (suc n) le = refl
 take_all (g ∷ gs) zero le = absurd (omega arith)
 take_all (g ∷ gs) (suc n) le = ap (λ (ts : List Gain). g ∷ ts) (take_all gs n (omega arith))
 
-split : (gains : List Gain) (d : Gain) → 1 ≤ length gains → gains ≡ get_or gains 0 d ∷ take (length gains - 1) (drop 1 gains)
+pub split : (gains : List Gain) (d : Gain) → 1 ≤ length gains → gains ≡ get_or gains 0 d ∷ take (length gains - 1) (drop 1 gains)
 split [] d le = absurd (omega arith)
 split (g ∷ gs) d le = let fits : length gs ≤ length (g ∷ gs) - 1 = omega arith in ap (λ (ts : List Gain). g ∷ ts) (sym (take_all gs (length (g ∷ gs) - 1) fits))
 

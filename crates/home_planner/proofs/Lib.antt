@@ -3,4 +3,5 @@ pub mod Extending
 pub mod Walking
 pub mod Bridge
 pub mod EverySet
+pub mod Lowest
 pub mod Numbered

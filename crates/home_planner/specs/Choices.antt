@@ -68,3 +68,14 @@ Settles g pairs homes cost left homes' cost' left' =
 abbrev pub IsLeastChoice : List Gain → ℕ → ℕ → Type 0
 IsLeastChoice gains room cost =
     ((choice : List Bool) × (words_by gains choice ≤ room) × (cost_by gains choice ≡ cost)) × ((choice : List Bool) → words_by gains choice ≤ room → cost ≤ cost_by gains choice)
+
+-- the lesser of an object's costs, with the words of SRAM that it then takes
+abbrev pub lesser_by : Bool → Gain → Pair
+lesser_by t g = if t then record { words = g.words; cost = g.sram } else record { words = 0; cost = g.fram }
+
+abbrev pub lesser_of : Gain → Pair
+lesser_of g = lesser_by (nat_lt g.sram g.fram) g
+
+-- some choice in the room costs so much, and none costs less, whatever its words
+abbrev pub IsLowestChoice : List Gain → ℕ → ℕ → Type 0
+IsLowestChoice gains room cost = ((choice : List Bool) × (words_by gains choice ≤ room) × (cost_by gains choice ≡ cost)) × ((choice : List Bool) → cost ≤ cost_by gains choice)

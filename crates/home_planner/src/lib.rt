@@ -1,7 +1,7 @@
 //! Which objects to keep in SRAM: the best set of them in a room of so many words.
 #![tactic(auto)]
 
-ghost use Rattle.std.specs.Prelude.{◌≡◌, ◌<◌, ◌≤◌, ◌-◌, ◌^◌, ℕ, List, IfOk, IsSomeAnd, length, slice_get, true};
+ghost use Rattle.std.specs.Prelude.{◌≡◌, ◌<◌, ◌≤◌, ◌-◌, ◌^◌, ℕ, List, IfOk, IfSome, IsSome, IsSomeAnd, length, slice_get, true};
 ghost use Rattle.std.specs.List.{AllByRecursion};
 ghost use Rattle.std.specs.List.Sorted.{IsPermutation, IsSorted, IsStrictlyIncreasing};
 ghost use Rattle.std.specs.Ordering.{nat_cmp};
@@ -10,12 +10,14 @@ ghost use Rattle.home_planner.specs.Sets.{Differ, IsLeast, NoneBelow, all_costs,
 
 mod choose;
 mod layers;
+mod lesser;
 mod pairs;
 pub mod plain;
 
 use base_io::Memory;
 use choose::chosen;
 use layers::{layers_of, pairs_of};
+use lesser::sum_of_lesser;
 use std::alloc::Global;
 
 /// An object that may be kept in SRAM: the words of SRAM that it takes there, and the energy units that its accesses
@@ -80,6 +82,31 @@ pub fn frontier(alloc: Global, gains: &[Gain], room: u32) -> Result<Vec<Pair>, M
     ensures last { IfOk result (λ pairs. IsSomeAnd (slice_get pairs.items (length pairs.items - 1)) (λ pair. IsLeast gains.now room pair.cost)) }
 {
     pairs_of(alloc, gains, room)
+}
+
+/// The cost of the last pair.
+fn last_cost(pairs: &[Pair]) -> u64
+    requires { IsSome (slice_get pairs.now (length pairs.now - 1)) }
+    ensures { IfSome (slice_get pairs.now (length pairs.now - 1)) (λ pair. result ≡ pair.cost) }
+{
+    pairs[pairs.len() - 1].cost
+}
+
+/// What a best set of objects in the room costs, without the set: no set in the room costs less. It takes one pass and no
+/// memory where all objects that cost less in SRAM have room there together, else it takes what `frontier` does. It fails
+/// only for want of memory.
+pub fn least_cost(alloc: Global, gains: &[Gain], room: u32) -> Result<u64, Memory>
+    requires differ { Differ gains.now }
+    requires costs { all_costs gains.now < 2 ^ 63 }
+    ensures { IfOk result (λ cost. IsLeast gains.now room cost) }
+{
+    match sum_of_lesser(gains, room) {
+        Some(cost) => Ok(cost),
+        None => {
+            let pairs = frontier(alloc, gains, room)?;
+            Ok(last_cost(&pairs))
+        }
+    }
 }
 
 #[cfg(test)]

@@ -59,6 +59,7 @@ fn expect_best(
     let choice = best(alloc, &gains, room)?;
     assert_eq!(rt; choice.cost, cost);
     assert_eq!(rt; choice.homes.as_slice(), homes);
+    assert_eq!(rt; least_cost(alloc, &gains, room)?, cost);
     Ok(())
 }
 
@@ -181,6 +182,7 @@ fn random_gains(rt: HostRuntime) -> Result<(), Fail> {
         let gains = gains_of(alloc, &rows[..count])?;
         let least = plain::least_cost(&gains, room);
         assert_eq!(rt; best(alloc, &gains, room)?.cost, least, "at {seed}");
+        assert_eq!(rt; least_cost(alloc, &gains, room)?, least, "at {seed}");
         let pairs = frontier(alloc, &gains, room)?;
         assert_eq!(rt;
             pairs.last().map(|last| last.cost),

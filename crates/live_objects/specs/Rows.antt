@@ -64,3 +64,16 @@ pub record IsLivenessOf (l : Liveness) (g : Graph) : Type 0 where
   pub operations : l.operations.items ≡ operations g
   pub entries : l.entries.items ≡ entries g.functions
   pub rows : (o : ℕ) → o < length g.objects → IsRow g o (live_at l.rows.items o)
+
+-- ---- as they are told
+
+-- whether an object is marked behind an operation, if there is one
+abbrev pub marked_behind_in : List (Vec Bool Global) → ℕ → List ℕ → Option Owned → ℕ → Bool
+marked_behind_in rows count entries None o = false
+marked_behind_in rows count entries (Some x) o = marked_behind rows count entries x.function x.node.next o
+
+abbrev pub told_before : Liveness → ℕ → ℕ → Bool
+told_before l i o = live_at l.rows.items o i
+
+abbrev pub told_after : Liveness → ℕ → ℕ → Bool
+told_after l i o = marked_behind_in l.rows.items (length l.operations.items) l.entries.items (slice_get l.operations.items i) o

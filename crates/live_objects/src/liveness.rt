@@ -1,13 +1,13 @@
 //! The table of the places at which each object is live.
 
-ghost use Rattle.std.specs.Prelude.{◌≡◌, ◌<◌, ◌≤◌, ◌+◌, ◌^◌, ◌++◌, ◌∷◌, ◌↔◌, ℕ, [], IfOk, OnOk, IsTrue, Some, false, true, length, replicate, slice_get, slice_index_or};
+ghost use Rattle.std.specs.Prelude.{◌≡◌, ◌<◌, ◌≤◌, ◌+◌, ◌^◌, ◌++◌, ◌∷◌, ◌↔◌, ℕ, [], IfOk, OnOk, IsTrue, None, Some, false, true, length, replicate, slice_get, slice_index_or};
 ghost use Rattle.std.specs.List.{AllByRecursion};
 ghost use Rattle.graph_paths.specs.Paths.{AreWithin, Reaches};
 ghost use Rattle.flow_graph.specs.declared.graph.Graph.{Graph};
 ghost use Rattle.flow_graph.specs.declared.owned.Owned.{Owned};
 ghost use Rattle.flow_graph.specs.Owned.{operations};
 ghost use Rattle.live_objects.specs.Live.{IsLiveAfter, IsLiveBefore};
-ghost use Rattle.live_objects.specs.Rows.{AreRows, IsLivenessOf, IsTable, live_at, marked_at, marked_behind, place_roles};
+ghost use Rattle.live_objects.specs.Rows.{AreRows, IsLivenessOf, IsTable, live_at, marked_at, marked_behind, place_roles, told_after, told_before};
 
 use crate::begins::entries;
 use crate::links::arcs;
@@ -196,7 +196,8 @@ fn is_behind(
     object: u32,
 ) -> bool
     requires { length operations.now < 2 ^ 63 }
-    ensures { (x : Owned) → slice_get operations.now op ≡ Some x → result ≡ marked_behind rows.now (length operations.now) entries.now x.function x.node.next object }
+    ensures there { (x : Owned) → slice_get operations.now op ≡ Some x → result ≡ marked_behind rows.now (length operations.now) entries.now x.function x.node.next object }
+    ensures none { slice_get operations.now op ≡ None → result ≡ false }
 {
     match operations.get(op as usize) {
         None => false,
@@ -207,14 +208,16 @@ fn is_behind(
 impl Liveness {
     /// Whether the object is live before the operation.
     pub fn before(&self, op: u32, object: u32) -> bool
-        ensures { (g : Graph) → IsLivenessOf self.now g → op < length (operations g) → object < length g.objects → IsTrue result ↔ IsLiveBefore g op object }
+        ensures told { result ≡ told_before self.now op object }
+        ensures live { (g : Graph) → IsLivenessOf self.now g → op < length (operations g) → object < length g.objects → IsTrue result ↔ IsLiveBefore g op object }
     {
         is_marked(self.rows.as_slice(), object, op as usize)
     }
 
     /// Whether the object is live behind the operation: before one of those that may be executed next.
     pub fn after(&self, op: u32, object: u32) -> bool
-        ensures { (g : Graph) → IsLivenessOf self.now g → op < length (operations g) → object < length g.objects → IsTrue result ↔ IsLiveAfter g op object }
+        ensures told { result ≡ told_after self.now op object }
+        ensures live { (g : Graph) → IsLivenessOf self.now g → op < length (operations g) → object < length g.objects → IsTrue result ↔ IsLiveAfter g op object }
     {
         is_behind(
             self.rows.as_slice(),

@@ -1,11 +1,10 @@
 -- The costs of a loop: they never fall as the turns grow, and are the costs of gains where they are within the budget.
-use Rattle.std.specs.Prelude.{if◌then◌else◌, length, min, slice_get, IsSomeAnd, IfSome, Option, None, Some}
+use Rattle.std.specs.Prelude.{if◌then◌else◌, length, min, MatchOption, Option, Some}
 use Rattle.std.proofs.Common.{◌≡◌, ◌==◌, ◌<◌, ◌≤◌, ◌+◌, ◌*◌, ◌-◌, ◌^◌, ◌++◌, ◌||◌, ℕ, Bool, true, false, List, [], ◌∷◌, refl, sym, ap, ◌∙◌, subst, arith}
 use Rattle.std.specs.List.{AllByRecursion, IsDistinct, list_any}
 use Rattle.std.proofs.Math.Nat.{mul-le-mul_right}
 use Rattle.std.proofs.lemmas.Map.Steps.{length-le_from_distinct_below}
 use Rattle.home_planner.specs.declared.Gain.{Gain}
-use Rattle.home_planner.specs.declared.Pair.{Pair}
 use Rattle.home_planner.specs.Sets as sets
 use Rattle.loop_checkpoints.specs.declared.LoopObject.{LoopObject}
 use Rattle.loop_checkpoints.specs.declared.LoopWeight.{LoopWeight}
@@ -130,17 +129,14 @@ gains_small gs turns budget os e differ all le =
     (costs_small turns budget os differ
     (subst (λ (xs : List ℕ). AllByRecursion (λ o. o < 2 ^ 32) xs) (objects-gains_of turns budget os) (subst (λ (hs : List Gain). AllByRecursion (λ o. o < 2 ^ 32) (sets.objects hs)) e all)) le)
 
--- ---- the last pair
+-- ---- the least cost
 
-least_at : (o : Option Pair) (gs : List Gain) (room least : ℕ) → IsSomeAnd o (λ p. sets.IsLeast gs room p.cost) → IfSome o (λ p. least ≡ p.cost) → sets.IsLeast gs room least
-least_at None gs room least is e = absurd is
-least_at (Some p) gs room least is e = subst (λ (n : ℕ). sets.IsLeast gs room n) (sym e) is
-
-pub least_last : (ps qs : List Pair) (gs : List Gain) (turns budget : ℕ) (os : List LoopObject) (room least : ℕ) → qs ≡ ps → gs ≡ gains_of turns budget os
-    → IsSomeAnd (slice_get ps (length ps - 1)) (λ p. sets.IsLeast gs room p.cost) → IfSome (slice_get qs (length qs - 1)) (λ p. least ≡ p.cost) → sets.IsLeast (gains_of turns budget os) room least
-least_last ps qs gs turns budget os room least e f is same =
-    subst (λ (hs : List Gain). sets.IsLeast hs room least) f
-    (least_at (slice_get ps (length ps - 1)) gs room least is (subst (λ (rs : List Pair). IfSome (slice_get rs (length rs - 1)) (λ p. least ≡ p.cost)) e same))
+pub fits_from : (w : LoopWeight) (room budget turns cost : ℕ) (found : Option ℕ) → MatchOption found (NoneFits w room budget turns) (λ cost. IsLeast w room turns cost × (cost ≤ budget)) → found ≡ Some cost
+    → Fits w room budget turns
+fits_from w room budget turns cost found is e = from (subst (λ (o : Option ℕ). MatchOption o (NoneFits w room budget turns) (λ cost. IsLeast w room turns cost × (cost ≤ budget))) e is)
+  where
+    from : IsLeast w room turns cost × (cost ≤ budget) → Fits w room budget turns
+    from (((homes, words, costs), bound), le) = (homes, words, omega arith)
 
 pub fits_at : (w : LoopWeight) (room budget turns least total : ℕ) → sets.IsLeast (gains_of turns budget w.objects.items) room least → total ≡ min ((w.fixed + turns * w.base) + least) (2 ^ 64 - 1) → budget ≤ 1000000000
     → total ≤ budget → Fits w room budget turns
@@ -151,6 +147,11 @@ fits_at w room budget turns least total is e small le =
 pub fits_not : (w : LoopWeight) (room budget turns least total : ℕ) → sets.IsLeast (gains_of turns budget w.objects.items) room least → total ≡ min ((w.fixed + turns * w.base) + least) (2 ^ 64 - 1)
     → budget < total → NoneFits w room budget turns
 fits_not w room budget turns least total is e lt = none_within w room budget turns least is.1 (omega arith)
+
+pub cost_is : (w : LoopWeight) (room budget turns least total : ℕ) → sets.IsLeast (gains_of turns budget w.objects.items) room least → total ≡ min ((w.fixed + turns * w.base) + least) (2 ^ 64 - 1) → budget ≤ 1000000000
+    → total ≤ budget → IsLeast w room turns total × (total ≤ budget)
+cost_is w room budget turns least total is e small le =
+    (subst (λ (n : ℕ). IsLeast w room turns n) (omega arith) (least_within w room budget turns least is (omega arith)), le)
 
 -- ---- the best homes
 

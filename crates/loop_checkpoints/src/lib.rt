@@ -1,18 +1,18 @@
 //! How many turns of a conditional loop go between two checkpoints, and which objects are kept in SRAM meanwhile.
 #![tactic(auto)]
 
-ghost use Rattle.std.specs.Prelude.{◌≡◌, ◌<◌, ◌≤◌, ◌+◌, ◌*◌, ◌^◌, ◌-◌, ◌↔◌, ℕ, List, ◌++◌, ◌∷◌, [], IfOk, IfSome, IsSome, OnOk, min, length, slice_get, true};
+ghost use Rattle.std.specs.Prelude.{◌≡◌, ◌<◌, ◌≤◌, ◌+◌, ◌*◌, ◌^◌, ◌-◌, ◌↔◌, ℕ, List, ◌++◌, ◌∷◌, [], IfOk, MatchOption, OnOk, min, true};
 ghost use Rattle.std.specs.Bool.{MatchBool};
 ghost use Rattle.std.specs.List.Sorted.{IsStrictlyIncreasing};
 ghost use Rattle.home_planner.specs.Sets as sets;
 ghost use Rattle.home_planner.specs.Sets.{is_in};
-ghost use Rattle.loop_checkpoints.specs.Loops.{Differ, Fits, LeastNeverFalls, NoneBelow, NoneFits, cost_of, gain_of, gains_of, objects, words_of};
+ghost use Rattle.loop_checkpoints.specs.Loops.{Differ, Fits, IsLeast, LeastNeverFalls, NoneBelow, NoneFits, cost_of, gain_of, gains_of, objects, words_of};
 ghost use Rattle.loop_checkpoints.specs.Plans.{IsBest, IsSplit, WhereEvery};
 
 pub mod plain;
 
 use base_io::Memory;
-use home_planner::{Choice, Gain, Pair, best, frontier};
+use home_planner::{Choice, Gain, best, least_cost};
 use std::alloc::Global;
 
 /// An object that a loop touches: the words of SRAM that it takes there, the energy units that one turn's accesses
@@ -100,14 +100,6 @@ fn gains_at(
     Ok(gains)
 }
 
-/// The cost of the last pair.
-fn last_cost(pairs: &[Pair]) -> u64
-    requires { IsSome (slice_get pairs.now (length pairs.now - 1)) }
-    ensures { IfSome (slice_get pairs.now (length pairs.now - 1)) (λ pair. result ≡ pair.cost) }
-{
-    pairs[pairs.len() - 1].cost
-}
-
 /// What a loop costs in so many turns with its objects at a cost, as far as that can be told.
 fn total(weight: &LoopWeight, turns: u32, objects: u64) -> u64
     ensures { result ≡ min ((weight.now.fixed + turns * weight.now.base) + objects) (2 ^ 64 - 1) }
@@ -116,6 +108,29 @@ fn total(weight: &LoopWeight, turns: u32, objects: u64) -> u64
         .saturating_mul(weight.base)
         .saturating_add(weight.fixed)
         .saturating_add(objects)
+}
+
+/// The least cost in so many turns over all sets in the room, where that is no more than the budget. It fails only for
+/// want of memory.
+pub fn cost_at(
+    alloc: Global,
+    weight: &LoopWeight,
+    room: u32,
+    budget: u64,
+    turns: u32,
+) -> Result<Option<u64>, Memory>
+    requires differ { Differ weight.now.objects.items }
+    requires budget { budget ≤ 1000000000 }
+    ensures { IfOk result (λ found. MatchOption found (NoneFits weight.now room budget turns) (λ cost. IsLeast weight.now room turns cost × (cost ≤ budget))) }
+{
+    let gains = gains_at(alloc, &weight.objects, turns, budget)?;
+    let least = least_cost(alloc, &gains, room)?;
+    let cost = total(weight, turns, least);
+    if cost <= budget {
+        Ok(Some(cost))
+    } else {
+        Ok(None)
+    }
 }
 
 /// Whether some set in the room costs no more than the budget in so many turns.
@@ -130,10 +145,11 @@ fn fits(
     requires budget { budget ≤ 1000000000 }
     ensures { IfOk result (λ yes. MatchBool yes (Fits weight.now room budget turns) (NoneFits weight.now room budget turns)) }
 {
-    let gains = gains_at(alloc, &weight.objects, turns, budget)?;
-    let pairs = frontier(alloc, &gains, room)?;
-    let cost = total(weight, turns, last_cost(&pairs));
-    if cost <= budget { Ok(true) } else { Ok(false) }
+    let found = cost_at(alloc, weight, room, budget, turns)?;
+    match found {
+        Some(_cost) => Ok(true),
+        None => Ok(false),
+    }
 }
 
 /// The most turns between two checkpoints.
@@ -161,8 +177,8 @@ fn greatest_turns(alloc: Global, weight: &LoopWeight, room: u32, budget: u64) ->
     Ok(low)
 }
 
-/// The best homes in so many turns, and what these turns then cost.
-fn best_at(
+/// The best homes in so many turns, and what these turns then cost. It fails only for want of memory.
+pub fn best_at(
     alloc: Global,
     weight: &LoopWeight,
     room: u32,

@@ -1,0 +1,5 @@
+pub mod Substructure
+pub mod Choosing
+pub mod Growing
+pub mod Walking
+pub mod WholeTables

@@ -1,0 +1,4 @@
+pub mod Plans
+pub mod Weights
+pub mod Legs
+pub mod Tables

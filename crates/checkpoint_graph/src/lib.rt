@@ -1,0 +1,13 @@
+//! Where the heads of a graph stand and which objects live in SRAM between them: its chains and their cheapest plans.
+#![tactic(auto)]
+
+mod arrays;
+mod budget;
+mod known;
+mod lists;
+mod placing;
+mod touched;
+mod turn;
+
+pub use chain_units::{Chain, Stretch};
+pub use placing::{Placing, PlanFault, plan};
