@@ -1,0 +1,17 @@
+pub mod Values
+pub mod Reaches
+pub mod Results
+pub mod Knowing
+pub mod Writing
+pub mod Placing
+pub mod Rules
+pub mod Computing
+pub mod Computed
+pub mod Pointing
+pub mod Jumping
+pub mod Performing
+pub mod Copying
+pub mod Stack
+pub mod Calling
+pub mod Returning
+pub mod Keeping
