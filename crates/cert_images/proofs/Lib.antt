@@ -1,0 +1,10 @@
+pub mod Walking
+pub mod Coding
+pub mod Laying
+pub mod Folding
+pub mod Operating
+pub mod Forming
+pub mod Wording
+pub mod Placing
+pub mod Graphing
+pub mod Sheeting

@@ -1,0 +1,9 @@
+pub mod Stepping
+pub mod Writing
+pub mod Paying
+pub mod Straight
+pub mod Pointing
+pub mod Jumping
+pub mod Bare
+pub mod Edges
+pub mod Exact

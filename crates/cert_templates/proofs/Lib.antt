@@ -1,0 +1,16 @@
+pub mod Templates
+pub mod Ending
+pub mod Loading
+pub mod Comparing
+pub mod Leaving
+pub mod Indexing
+pub mod Checking
+pub mod Elements
+pub mod Turning
+pub mod Multiplying
+pub mod Dividing
+pub mod Quotients
+pub mod Signed
+pub mod Shifting
+pub mod Operations
+pub mod Rows
