@@ -2,11 +2,10 @@
 ghost use Rattle.std.specs.Prelude.{◌≡◌, Some};
 ghost use Rattle.certificate.specs.Rows.{function_of, point_of};
 ghost use Rattle.cert_rules.specs.Tables.{has_stretch as has_stretch_lem, place_fault, point_fault};
-ghost use Rattle.cert_check.specs.Shown.{functions_in, shown_fault};
+ghost use Rattle.cert_state.specs.Shown.{functions_in, shown_fault};
 
-use crate::fault::{Fault, unless};
-use crate::rows::{contains, head_around, is_head, is_split};
 use cert_rules::Rule;
+use cert_state::{Fault, contains, head_around, is_head, is_split, unless};
 use certificate::{FunctionRow, PointRow, StretchRow};
 
 // a flat function has its one stretch, any other those of its heads

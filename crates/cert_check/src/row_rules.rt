@@ -5,13 +5,11 @@ ghost use Rattle.certificate.specs.Rows.{function_of};
 ghost use Rattle.cert_rules.specs.Faults.{first_of};
 ghost use Rattle.cert_rules.specs.Words.{head_words as head_words_lem, shown as shown_lem};
 ghost use Rattle.cert_rules.specs.Tables.{board_fault as board_fault_lem, boot_fault as boot_fault_lem, budget_fault as budget_fault_lem, code_end as code_end_lem, first_start as first_start_lem, function_fault as function_fault_lem, functions_fault as functions_fault_lem, head_fault as head_fault_lem, is_number, others_fault as others_fault_lem, start_fault as start_fault_lem, tables_fault};
-ghost use Rattle.cert_check.specs.Shown.{blocks_in, functions_in, shown_fault};
+ghost use Rattle.cert_state.specs.Shown.{blocks_in, functions_in, shown_fault};
 
-use crate::fault::{Fault, unless};
-use crate::rows::{is_head, is_split, lies_in};
-use crate::words::{word_fault, words_fault};
 use board_table::Board;
 use cert_rules::Rule;
+use cert_state::{Fault, is_head, is_split, lies_in, unless, word_fault, words_fault};
 use certificate::{FunctionRow, StretchRow};
 use ti_txt::{Image, Segment};
 

@@ -1,6 +1,6 @@
 use Rattle.std.proofs.Common.{◌≡◌, length}
 use Rattle.cert_rules.specs.Tables.{code_end}
-use Rattle.cert_check.specs.Shown.{blocks_in}
+use Rattle.cert_state.specs.Shown.{blocks_in}
 use Rattle.cert_check.proofs.row_rules.code_end.Given as goal
 
 -- no segment so far holds the byte

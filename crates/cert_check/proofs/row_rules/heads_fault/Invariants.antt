@@ -1,7 +1,7 @@
 use Rattle.std.proofs.Common.{◌≡◌, length}
 use Rattle.cert_rules.specs.Faults.{first_of}
 use Rattle.cert_rules.specs.Tables.{head_fault}
-use Rattle.cert_check.specs.Shown.{blocks_in, functions_in}
+use Rattle.cert_state.specs.Shown.{blocks_in, functions_in}
 use Rattle.cert_check.proofs.row_rules.heads_fault.Given as goal
 
 -- the heads so far hold

@@ -1,7 +1,7 @@
 use Rattle.std.proofs.Common.{◌≡◌, length}
 use Rattle.certificate.specs.Rows.{function_of}
 use Rattle.cert_rules.specs.Tables.{others_fault}
-use Rattle.cert_check.specs.Shown.{functions_in}
+use Rattle.cert_state.specs.Shown.{functions_in}
 use Rattle.cert_check.proofs.row_rules.others_fault.Given as goal
 
 -- the functions so far follow one another

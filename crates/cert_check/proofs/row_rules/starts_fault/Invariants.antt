@@ -1,7 +1,7 @@
 use Rattle.std.proofs.Common.{◌≡◌, length}
 use Rattle.cert_rules.specs.Faults.{first_of}
 use Rattle.cert_rules.specs.Tables.{start_fault}
-use Rattle.cert_check.specs.Shown.{functions_in}
+use Rattle.cert_state.specs.Shown.{functions_in}
 use Rattle.cert_check.proofs.row_rules.starts_fault.Given as goal
 
 -- the functions so far begin as they have to

@@ -1,0 +1,5 @@
+pub mod Chains
+pub mod Costs
+pub mod FirstWords
+pub mod Same
+pub mod Stores

@@ -1,0 +1,4 @@
+pub mod Advancing
+pub mod Chains
+pub mod Rows
+pub mod Total
