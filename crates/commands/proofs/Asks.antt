@@ -1,11 +1,12 @@
 -- Words ask for one job.
 use Rattle.std.proofs.Common.{◌≡◌, ◌⊎◌, ℕ, List, Option, Some, None, ap, ap₂, sym, ◌∙◌, inl, inr, true≢false}
-use Rattle.job_parts.specs.Asked.{Request, asked, build, run, say}
+use Rattle.job_parts.specs.Asked.{Request, asked, build, check, run, say}
 use Rattle.job_files.specs.Text.{Text}
 use Rattle.build_job.specs.Build.{Build}
+use Rattle.check_job.specs.Check.{Check}
 use Rattle.run_job.specs.Run.{Run}
 use Rattle.say_job.specs.Say.{Say}
-use Rattle.commands.specs.Words.{AskBuild, AskRun, AskSay, AskUnbuilt, is_built}
+use Rattle.commands.specs.Words.{AskBuild, AskCheck, AskRun, AskSay, AskUnbuilt, is_built}
 
 pub some_none : (o : Option Request) (r : Request) → o ≡ Some r → o ≡ None → ⊥
 some_none o r e n = cc
@@ -113,4 +114,54 @@ one_build words a b e f =
     let same = same_request (build_request a e.steps) (build_request b f.steps) (sym e.asks ∙ f.asks) in
     ap₂ build_from
     (same_files a.program a.board a.image a.certificate b.program b.board b.image b.certificate (ap (λ (r : Request). r.task) same))
+    (ap (λ (r : Request). r.budget) same)
+
+-- ---- Checks
+
+abbrev check_request : Check → ℕ → Request
+check_request job steps = record { task = check job.image job.certificate job.board; budget = job.budget; steps = steps }
+
+-- words that ask for a check are refused for nothing
+pub check_asks_once : (words : List Text) (job : Check) → AskCheck words job → (asked words ≡ None) ⊎ AskUnbuilt words → ⊥
+check_asks_once words job e (inl none) = some_none (asked words) (check_request job e.steps) e.asks none
+check_asks_once words job e (inr u) =
+    true≢false (ap (λ (r : Request). is_built r.task) (same_request (check_request job e.steps) u.request (sym e.asks ∙ u.asks)) ∙ u.unbuilt)
+
+-- and ask for no build, no run and no say
+pub build_or_check : (words : List Text) (job : Build) (other : Check) → AskBuild words job → AskCheck words other → ⊥
+build_or_check words job other e f =
+    apart (ap (λ (r : Request). r.task) (same_request (build_request job e.steps) (check_request other f.steps) (sym e.asks ∙ f.asks)))
+  where
+    apart : build job.program job.board job.image job.certificate ≡ check other.image other.certificate other.board → ⊥
+    apart same = cc
+
+pub run_or_check : (words : List Text) (job : Run) (other : Check) → AskRun words job → AskCheck words other → ⊥
+run_or_check words job other e f =
+    apart (ap (λ (r : Request). r.task) (same_request (run_request job) (check_request other f.steps) (sym e.asks ∙ f.asks)))
+  where
+    apart : run job.image job.board job.input job.supplies ≡ check other.image other.certificate other.board → ⊥
+    apart same = cc
+
+pub say_or_check : (words : List Text) (job : Say) (other : Check) → AskSay words job → AskCheck words other → ⊥
+say_or_check words job other e f =
+    apart (ap (λ (r : Request). r.task) (same_request (say_request job e.budget) (check_request other f.steps) (sym e.asks ∙ f.asks)))
+  where
+    apart : say job.program job.input ≡ check other.image other.certificate other.board → ⊥
+    apart same = cc
+
+abbrev CheckFiles : Type 0
+CheckFiles = Text × Text × Text
+
+abbrev check_from : CheckFiles → Option ℕ → Check
+check_from v budget = record { image = v.0; certificate = v.1; board = v.2; budget = budget }
+
+same_check_files : (i c b j d e : Text) → check i c b ≡ check j d e → (let x : CheckFiles = (i, c, b) in x ≡ (j, d, e))
+same_check_files i c b j d e same = cc
+
+-- words ask for one check
+pub one_check : (words : List Text) (a b : Check) → AskCheck words a → AskCheck words b → a ≡ b
+one_check words a b e f =
+    let same = same_request (check_request a e.steps) (check_request b f.steps) (sym e.asks ∙ f.asks) in
+    ap₂ check_from
+    (same_check_files a.image a.certificate a.board b.image b.certificate b.board (ap (λ (r : Request). r.task) same))
     (ap (λ (r : Request). r.budget) same)

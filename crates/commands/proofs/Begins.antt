@@ -11,6 +11,8 @@ use Rattle.job_files.specs.Stores.{IsUnwritten, Seen}
 use Rattle.job_files.specs.Text.{Text}
 use Rattle.build_job.specs.Build.{Build}
 use Rattle.build_job.specs.Ends.{BuildEnds}
+use Rattle.check_job.specs.Check.{Check}
+use Rattle.check_job.specs.Ends.{CheckEnds}
 use Rattle.run_job.specs.Boxes.{Box, FitBoxes}
 use Rattle.run_job.specs.Ends.{IsShown, RunEnds, RunRefuses}
 use Rattle.run_job.specs.Opening.{GivesUp, MayRun}
@@ -100,10 +102,10 @@ usage_begins words old before e (Err m) h = gives_up words old before
 -- a refusal of a job that isn't built
 at_once : (t : Task) (budget : Option ℕ) (steps : ℕ) (old : Seen) (before : List Box) (a : Answer) (line : Text) → is_built t ≡ false
     → IsRefusedAtOnce not_built old old a line → TaskEnds t budget steps old old before before a line
-at_once (check image certificate board) budget steps old before a line e h = (h, refl)
 at_once (plan program board) budget steps old before a line e h = (h, refl)
 at_once (gen seed size board) budget steps old before a line e h = (h, refl)
 at_once (build program board image certificate) budget steps old before a line e h = absurd (true≢false e)
+at_once (check image certificate board) budget steps old before a line e h = absurd (true≢false e)
 at_once (run image board input supplies) budget steps old before a line e h = absurd (true≢false e)
 at_once (say program input) budget steps old before a line e h = absurd (true≢false e)
 
@@ -132,6 +134,23 @@ module _ (job : Build) (steps : ℕ) (old new : Seen) (before : List Box) where
 
   pub build_comes : (t : Task) → t ≡ build job.program job.board job.image job.certificate → (r : Result Beginning Memory) → BuildBegins r → TaskBegins t job.budget steps old new before before r
   build_comes t is r h = subst (λ (x : Task). TaskBegins x job.budget steps old new before before r) (sym is) (build_task r h)
+
+-- a check
+module _ (job : Check) (steps : ℕ) (old new : Seen) (before : List Box) where
+  abbrev pub CheckBegins : Result Beginning Memory → Type 0
+  CheckBegins r =
+      MatchResult r
+      (λ b. MatchBeginning b (λ ending. CheckEnds job old new (answer_of ending.status) (string_bytes ending.line)) (λ opened. ⊥) (λ opened. ⊥))
+      (λ m. IsUnwritten old new)
+
+  check_task : (r : Result Beginning Memory) → CheckBegins r → TaskBegins (check job.image job.certificate job.board) job.budget steps old new before before r
+  check_task (Ok (Ends ending)) h = (h, refl)
+  check_task (Ok (Runs opened)) h = absurd h
+  check_task (Ok (Says opened)) h = absurd h
+  check_task (Err m) h = (h, refl)
+
+  pub check_comes : (t : Task) → t ≡ check job.image job.certificate job.board → (r : Result Beginning Memory) → CheckBegins r → TaskBegins t job.budget steps old new before before r
+  check_comes t is r h = subst (λ (x : Task). TaskBegins x job.budget steps old new before before r) (sym is) (check_task r h)
 
 -- a run
 module _ (job : Run) (old new : Seen) (before now : List Box) where

@@ -11,6 +11,9 @@ use Rattle.job_files.proofs.Telling.{fill, grew_not, map_told}
 use Rattle.build_job.specs.Build.{Build, build_files}
 use Rattle.build_job.specs.Building.{BuildCauses, RefusesBuild}
 use Rattle.build_job.specs.Ends.{BuildEnds, IsBuiltTold, LeavesStore}
+use Rattle.check_job.specs.Check.{Check, check_files}
+use Rattle.check_job.specs.Checking.{CheckCauses, RefusesCheck}
+use Rattle.check_job.specs.Ends.{CheckEnds, CountsCheck}
 use Rattle.run_job.specs.Boxes.{Box}
 use Rattle.run_job.specs.Ends.{RunEnds}
 use Rattle.run_job.specs.Run.{Run, run_files}
@@ -21,8 +24,8 @@ use Rattle.say_job.specs.Saying.{RefusesSay, SayCauses}
 use Rattle.commands.specs.Causes.{HasCause}
 use Rattle.commands.specs.Faults.{IsReadFaultOrFree, IsWriteFault, ReadFaultIs, SupplyFaultIs, TooLargeIs, WordsAre, WriteFaultIs}
 use Rattle.commands.specs.Left.{LeavesTold}
-use Rattle.commands.specs.Words.{AskBuild, AskRun, AskSay, AskUnbuilt}
-use Rattle.commands.proofs.Asks.{asks_once, run_asks_once, say_asks_once}
+use Rattle.commands.specs.Words.{AskBuild, AskCheck, AskRun, AskSay, AskUnbuilt}
+use Rattle.commands.proofs.Asks.{asks_once, check_asks_once, run_asks_once, say_asks_once}
 use Rattle.commands.proofs.Reading.{AskReading, IsLine, reading_large, reading_leaves, reading_line, reading_read, reading_read_rose, reading_supply, reading_words, reading_write}
 use Rattle.commands.proofs.Told.{same_told}
 use Rattle.commands.specs.Call.{Comes, ComesTo, IsGivenUp, IsRefusedAtOnce, TaskEnds}
@@ -48,7 +51,14 @@ module _ (words : List Text) (files : Files) (boxes : List Box) where
   say_caused job asks not_built h = absurd h
   say_caused job asks no_memory h = tt
   say_caused job asks (write_fault name) h = absurd h
-  say_caused job asks a h = inr (inr (job, asks, h))
+  say_caused job asks a h = inr (inr (inl (job, asks, h)))
+
+  check_caused : (job : Check) → AskCheck words job → (a : Answer) → CheckCauses job files a → HasCause words files boxes a
+  check_caused job asks usage h = absurd h
+  check_caused job asks not_built h = absurd h
+  check_caused job asks no_memory h = tt
+  check_caused job asks (write_fault name) h = absurd h
+  check_caused job asks a h = inr (inr (inr (job, asks, h)))
 
 -- ---- How a job may have come to its answer
 
@@ -61,15 +71,16 @@ module _ (words : List Text) (old new : Seen) (before now : List Box) (came : An
     (refused : (r : Answer) → RefusedWords words r → IsRefusedAtOnce r old new came line → P)
     (built : (job : Build) → AskBuild words job → BuildEnds job old new came line → P)
     (ran : (job : Run) → AskRun words job → RunEnds job old new before now came line → P)
-    (spoken : (job : Say) → AskSay words job → SayEnds job old new came line → P) where
+    (spoken : (job : Say) → AskSay words job → SayEnds job old new came line → P)
+    (checked : (job : Check) → AskCheck words job → CheckEnds job old new came line → P) where
   by_task : (t : Task) (budget : Option ℕ) (steps : ℕ) → asked words ≡ Some (record { task = t; budget = budget; steps = steps })
       → TaskEnds t budget steps old new before now came line → P
   by_task (build program board image certificate) budget steps e h =
       built (record { program = program; board = board; image = image; certificate = certificate; budget = budget }) (record { steps = steps; asks = e }) h.0
   by_task (run image board input supplies) budget steps e h =
       ran (record { image = image; board = board; input = input; supplies = supplies; budget = budget; steps = steps }) (record { asks = e }) h
-  by_task (check i c b) budget steps e h =
-      refused not_built (unbuilt (record { request = record { task = check i c b; budget = budget; steps = steps }; asks = e; unbuilt = refl })) h.0
+  by_task (check image certificate board) budget steps e h =
+      checked (record { image = image; certificate = certificate; board = board; budget = budget }) (record { steps = steps; asks = e }) h.0
   by_task (say program input) budget steps e h = spoken (record { program = program; input = input; steps = steps }) (record { budget = budget; asks = e }) h.0
   by_task (plan p b) budget steps e h =
       refused not_built (unbuilt (record { request = record { task = plan p b; budget = budget; steps = steps }; asks = e; unbuilt = refl })) h.0
@@ -97,6 +108,7 @@ module _ (words : List Text) (old new : Seen) (before now : List Box) (came : An
       (λ job e h. map_told old.files (λ f. BuildCauses job f came) (λ f. HasCause words f before came) (λ f. build_caused words f before job e came) h.cause)
       (λ job e h. map_told old.files (λ f. RunCauses job f before came) (λ f. HasCause words f before came) (λ f. run_caused words f before job e came) h.refuses.cause)
       (λ job e h. map_told old.files (λ f. SayCauses job f came) (λ f. HasCause words f before came) (λ f. say_caused words f before job e came) h.cause)
+      (λ job e h. map_told old.files (λ f. CheckCauses job f came) (λ f. HasCause words f before came) (λ f. check_caused words f before job e came) h.cause)
       (λ h. fill old.files (λ f. HasCause words f before came) (λ f. subst (HasCause words f before) (sym h.answer) tt))
 
 -- ---- A build
@@ -179,13 +191,53 @@ module _ (words : List Text) (old new : Seen) (job : Build) (e : AskBuild words 
   build_line (write_fault name) h = tt
   build_line a h = reading_line words (build_files job) (build_asked words job e) (RefusesBuild job) old.reads new.reads new.bad a h.1
 
+-- ---- A check
+
+module _ (words : List Text) (job : Check) (e : AskCheck words job) where
+  check_asked : AskReading words (check_files job)
+  check_asked = record { reads = λ w h. inr (inr (inr (job, e, h))); once = check_asks_once words job e }
+
+-- what a check says of each count, of its words and of the files
+module _ (words : List Text) (before now : ℕ) (bad : Text) (job : Check) (e : AskCheck words job) where
+  check_words : (a : Answer) → CountsCheck job before now bad a → WordsAre words a
+  check_words done h = λ n. absurd (check_asks_once words job e n)
+  check_words a h = reading_words words (check_files job) (check_asked words job e) (RefusesCheck job) before now bad a h
+
+  check_read : (a : Answer) → CountsCheck job before now bad a → ReadFaultIs words before now bad a
+  check_read done h = tt
+  check_read a h = reading_read words (check_files job) (check_asked words job e) (RefusesCheck job) before now bad a h
+
+  check_read_rose : (a : Answer) → CountsCheck job before now bad a → before < now → IsReadFaultOrFree a
+  check_read_rose done h less = absurd (grew_not before now h less)
+  check_read_rose a h less = reading_read_rose words (check_files job) (check_asked words job e) (RefusesCheck job) before now bad a h less
+
+  check_write : (a : Answer) → CountsCheck job before now bad a → (old new puts_before puts_now : ℕ) → WriteFaultIs words old new puts_before puts_now a
+  check_write done h old new puts_before puts_now = tt
+  check_write a h old new puts_before puts_now = reading_write words (check_files job) (check_asked words job e) (RefusesCheck job) before now bad a h old new puts_before puts_now
+
+  check_large : (a : Answer) → CountsCheck job before now bad a → TooLargeIs words a
+  check_large done h = tt
+  check_large a h = reading_large words (check_files job) (check_asked words job e) (RefusesCheck job) before now bad a h
+
+  check_supply : (boxes left : List Box) (a : Answer) → CountsCheck job before now bad a → SupplyFaultIs words boxes left a
+  check_supply boxes left done h = tt
+  check_supply boxes left a h = reading_supply words (check_files job) (check_asked words job e) (RefusesCheck job) before now bad boxes left a h
+
+  check_leaves : (o n : Option Files) → n ≡ o → (a : Answer) → CountsCheck job before now bad a → LeavesTold words a o n
+  check_leaves o n same done h = same_told words done (λ x y k. inr (inr (inr (job, e)), k)) o n same
+  check_leaves o n same a h = reading_leaves words (check_files job) (check_asked words job e) (RefusesCheck job) before now bad o n same a h
+
+  check_line : (a : Answer) → CountsCheck job before now bad a → IsLine a
+  check_line done h = tt
+  check_line a h = reading_line words (check_files job) (check_asked words job e) (RefusesCheck job) before now bad a h
+
 -- ---- A run or a say that is refused
 
 run_asked : (words : List Text) (job : Run) → AskRun words job → AskReading words (run_files job)
 run_asked words job e = record { reads = λ w h. inr (inl (job, e, h)); once = run_asks_once words job e }
 
 say_asked : (words : List Text) (job : Say) → AskSay words job → AskReading words (say_files job)
-say_asked words job e = record { reads = λ w h. inr (inr (job, e, h)); once = say_asks_once words job e }
+say_asked words job e = record { reads = λ w h. inr (inr (inl (job, e, h))); once = say_asks_once words job e }
 
 refused_line : (words : List Text) (r : Answer) → RefusedWords words r → IsLine r
 refused_line words _ (unread e) = tt
@@ -238,6 +290,7 @@ module _ (words : List Text) (old new : Seen) (before now : List Box) (came : An
       (λ job e h. build_words words old new job e came h.leaves)
       (λ job e h. reading_words words (run_files job) (run_asked words job e) (RefusesRun job) old.reads new.reads new.bad came h.refuses.counts)
       (λ job e h. reading_words words (say_files job) (say_asked words job e) (RefusesSay job) old.reads new.reads new.bad came h.counts)
+      (λ job e h. check_words words old.reads new.reads new.bad job e came h.counts)
       (λ h. subst (WordsAre words) (sym h.answer) (λ n. inl refl))
       comes
 
@@ -248,6 +301,7 @@ module _ (words : List Text) (old new : Seen) (before now : List Box) (came : An
       (λ job e h. build_read words old new job e came h.leaves)
       (λ job e h. reading_read words (run_files job) (run_asked words job e) (RefusesRun job) old.reads new.reads new.bad came h.refuses.counts)
       (λ job e h. reading_read words (say_files job) (say_asked words job e) (RefusesSay job) old.reads new.reads new.bad came h.counts)
+      (λ job e h. check_read words old.reads new.reads new.bad job e came h.counts)
       (λ h. subst (ReadFaultIs words old.reads new.reads new.bad) (sym h.answer) tt)
       comes
 
@@ -258,6 +312,7 @@ module _ (words : List Text) (old new : Seen) (before now : List Box) (came : An
       (λ job e h. build_read_rose words old new job e came h.leaves less)
       (λ job e h. reading_read_rose words (run_files job) (run_asked words job e) (RefusesRun job) old.reads new.reads new.bad came h.refuses.counts less)
       (λ job e h. reading_read_rose words (say_files job) (say_asked words job e) (RefusesSay job) old.reads new.reads new.bad came h.counts less)
+      (λ job e h. check_read_rose words old.reads new.reads new.bad job e came h.counts less)
       (λ h. subst IsReadFaultOrFree (sym h.answer) tt)
       comes
 
@@ -269,6 +324,7 @@ module _ (words : List Text) (old new : Seen) (before now : List Box) (came : An
       (λ job e h. build_write words old new job e came h.leaves n m)
       (λ job e h. reading_write words (run_files job) (run_asked words job e) (RefusesRun job) old.reads new.reads new.bad came h.refuses.counts old.writes new.writes n m)
       (λ job e h. reading_write words (say_files job) (say_asked words job e) (RefusesSay job) old.reads new.reads new.bad came h.counts old.writes new.writes n m)
+      (λ job e h. check_write words old.reads new.reads new.bad job e came h.counts old.writes new.writes n m)
       (λ h. subst P (sym h.answer) tt)
       comes
 
@@ -279,6 +335,7 @@ module _ (words : List Text) (old new : Seen) (before now : List Box) (came : An
       (λ job e h. build_large words old new job e came h.leaves)
       (λ job e h. reading_large words (run_files job) (run_asked words job e) (RefusesRun job) old.reads new.reads new.bad came h.refuses.counts)
       (λ job e h. reading_large words (say_files job) (say_asked words job e) (RefusesSay job) old.reads new.reads new.bad came h.counts)
+      (λ job e h. check_large words old.reads new.reads new.bad job e came h.counts)
       (λ h. subst (TooLargeIs words) (sym h.answer) tt)
       comes
 
@@ -290,6 +347,7 @@ module _ (words : List Text) (old new : Seen) (before now : List Box) (came : An
       (λ job e h. (subst (LeavesStore job old new) is h.leaves).1.writes.1)
       (λ job e h. absurd (subst (CountsReading (run_files job) (RefusesRun job) old.reads new.reads new.bad) is h.refuses.counts))
       (λ job e h. absurd (subst (CountsReading (say_files job) (RefusesSay job) old.reads new.reads new.bad) is h.counts))
+      (λ job e h. absurd (subst (CountsCheck job old.reads new.reads new.bad) is h.counts))
       (λ h. absurd (not_memory name (sym h.answer ∙ is)))
       comes
     where
@@ -303,6 +361,7 @@ module _ (words : List Text) (old new : Seen) (before now : List Box) (came : An
       (λ job e h. build_write_rose words old new job e came h.leaves less)
       (λ job e h. absurd (grew_not old.writes new.writes h.refuses.kept.writes less))
       (λ job e h. absurd (grew_not old.writes new.writes h.kept.writes less))
+      (λ job e h. absurd (grew_not old.writes new.writes h.kept.writes less))
       (λ h. absurd (grew_not old.writes new.writes h.kept.writes less))
       comes
 
@@ -312,6 +371,7 @@ module _ (words : List Text) (old new : Seen) (before now : List Box) (came : An
       (λ r e h. h.files)
       (λ job e h. build_failed words old new job e came h.leaves less)
       (λ job e h. h.refuses.kept.files)
+      (λ job e h. h.kept.files)
       (λ job e h. h.kept.files)
       (λ h. h.kept.files)
       comes
@@ -323,6 +383,7 @@ module _ (words : List Text) (old new : Seen) (before now : List Box) (came : An
       (λ job e h. build_leaves words old new job e came h.leaves)
       (λ job e h. reading_leaves words (run_files job) (run_asked words job e) (RefusesRun job) old.reads new.reads new.bad old.files new.files h.refuses.kept.files came h.refuses.counts)
       (λ job e h. reading_leaves words (say_files job) (say_asked words job e) (RefusesSay job) old.reads new.reads new.bad old.files new.files h.kept.files came h.counts)
+      (λ job e h. check_leaves words old.reads new.reads new.bad job e old.files new.files h.kept.files came h.counts)
       (λ h. given_leaves words old new before now came line h)
       comes
 
@@ -332,6 +393,7 @@ module _ (words : List Text) (old new : Seen) (before now : List Box) (came : An
       (λ r e h. kept_told words output old.files new.files h.files)
       (λ job e h. build_leaves_failed words old new job e came h.leaves)
       (λ job e h. kept_told words output old.files new.files h.refuses.kept.files)
+      (λ job e h. kept_told words output old.files new.files h.kept.files)
       (λ job e h. kept_told words output old.files new.files h.kept.files)
       (λ h. kept_told words output old.files new.files h.kept.files)
       comes
@@ -344,6 +406,7 @@ module _ (words : List Text) (old new : Seen) (before now : List Box) (came : An
       (λ job e h. build_supply words old new job e before now came h.leaves)
       (λ job e h. reading_supply words (run_files job) (run_asked words job e) (RefusesRun job) old.reads new.reads new.bad before now came h.refuses.counts)
       (λ job e h. reading_supply words (say_files job) (say_asked words job e) (RefusesSay job) old.reads new.reads new.bad before now came h.counts)
+      (λ job e h. check_supply words old.reads new.reads new.bad job e before now came h.counts)
       (λ h. subst (SupplyFaultIs words before now) (sym h.answer) tt)
       comes
 
@@ -355,5 +418,6 @@ module _ (words : List Text) (old new : Seen) (before now : List Box) (came : An
       (λ job e h. build_line words old new job e came h.leaves)
       (λ job e h. reading_line words (run_files job) (run_asked words job e) (RefusesRun job) old.reads new.reads new.bad came h.refuses.counts)
       (λ job e h. reading_line words (say_files job) (say_asked words job e) (RefusesSay job) old.reads new.reads new.bad came h.counts)
+      (λ job e h. check_line words old.reads new.reads new.bad job e came h.counts)
       (λ h. subst IsLine (sym h.answer) tt)
       comes

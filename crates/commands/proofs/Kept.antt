@@ -1,5 +1,5 @@
 -- A build that was done keeps the whole promise.
-use Rattle.std.proofs.Common.{List, Option, Some, None, ⊎_elim}
+use Rattle.std.proofs.Common.{List, Option, Some, None, inl, inr, ⊎_elim}
 use Rattle.base_io.specs.Files.{Files}
 use Rattle.lowered_images.specs.Images.{AreLoweredHeld, AreLoweredImages, IsImageOf, LoweredImagesAgree, LoweredImagesEndure}
 use Rattle.job_files.specs.Answers.{done}
@@ -7,9 +7,9 @@ use Rattle.job_files.specs.Text.{Text}
 use Rattle.build_job.specs.Build.{Build}
 use Rattle.build_job.specs.Building.{AreFine}
 use Rattle.commands.specs.Headline.{IsKept, IsKeptTold}
-use Rattle.commands.specs.Left.{AskedAndBuilt, LeavesTold}
+use Rattle.commands.specs.Left.{AskedAndBuilt, AsksNoWrite, LeavesTold}
 use Rattle.commands.specs.Words.{AskBuild}
-use Rattle.commands.proofs.Asks.{build_or_run, build_or_say}
+use Rattle.commands.proofs.Asks.{build_or_check, build_or_run, build_or_say}
 
 module _ (agree : LoweredImagesAgree) (endure : LoweredImagesEndure) (images : AreLoweredImages) (held : AreLoweredHeld) (words : List Text) where
   -- the image that was built is the image of its program
@@ -48,4 +48,9 @@ module _ (agree : LoweredImagesAgree) (endure : LoweredImagesEndure) (images : A
   kept_told job asks None None h = tt
   kept_told job asks (Some old) None h = h
   kept_told job asks None (Some new) h = h
-  kept_told job asks (Some old) (Some new) h = ⊎_elim (kept old new) (λ kept. absurd (⊎_elim (λ ran. build_or_run words job ran.0 asks ran.1) (λ said. build_or_say words job said.0 asks said.1) kept.0)) h
+  kept_told job asks (Some old) (Some new) h = ⊎_elim (kept old new) (λ kept. absurd (no_build kept.0)) h
+    where
+      no_build : AsksNoWrite words → ⊥
+      no_build (inl ran) = build_or_run words job ran.0 asks ran.1
+      no_build (inr (inl said)) = build_or_say words job said.0 asks said.1
+      no_build (inr (inr checked)) = build_or_check words job checked.0 asks checked.1

@@ -90,7 +90,7 @@ module _ (words : List Text) (old new : Seen) (before left : List Box) (sunk now
   said_output job p input a h less = absurd (grew_not sunk.faults now.faults h.2 less)
 
   said_leaves : (job : Say) → AskSay words job → (p : Program) (input : List ℕ) (a : Answer) → SaidHere job p input a → new.files ≡ old.files → LeavesTold words a old.files new.files
-  said_leaves job asks p input done h same = same_told words done (λ x y k. inr (inr (job, asks), k)) old.files new.files same
+  said_leaves job asks p input done h same = same_told words done (λ x y k. inr (inr (inl (job, asks)), k)) old.files new.files same
   said_leaves job asks p input (write_fault name) h same = same_told words (write_fault name) (λ x y k. inl k) old.files new.files same
   said_leaves job asks p input a h same = same_told words a (λ x y k. k) old.files new.files same
 

@@ -1,11 +1,12 @@
 -- What a whole call comes to: how its job ends, and what is put of it.
 use Rattle.std.specs.Prelude.{◌≡◌, ◌⊎◌, ℕ, List, [], Option, Some, None}
-use Rattle.job_parts.specs.Asked.{Request, Task, asked, build, run, say}
+use Rattle.job_parts.specs.Asked.{Request, Task, asked, build, check, run, say}
 use Rattle.job_files.specs.Answers.{Answer, line_of, no_memory, not_built, usage}
 use Rattle.job_files.specs.Output.{IsNotPut, Puts, Sunk}
 use Rattle.job_files.specs.Stores.{IsUnwritten, Seen}
 use Rattle.job_files.specs.Text.{Text}
 use Rattle.build_job.specs.Ends.{BuildEnds}
+use Rattle.check_job.specs.Ends.{CheckEnds}
 use Rattle.run_job.specs.Boxes.{Box, IsPartlyLoaded}
 use Rattle.run_job.specs.Ends.{HasRun, RunEnds}
 use Rattle.run_job.specs.Run.{Run}
@@ -25,6 +26,8 @@ pub record IsRefusedAtOnce (refusal : Answer) (old new : Seen) (a : Answer) (lin
 abbrev pub TaskEnds : Task → Option ℕ → ℕ → Seen → Seen → List Box → List Box → Answer → Text → Type 0
 TaskEnds (build program board image certificate) budget steps old new before now a line =
     BuildEnds (record { program = program; board = board; image = image; certificate = certificate; budget = budget }) old new a line × (now ≡ before)
+TaskEnds (check image certificate board) budget steps old new before now a line =
+    CheckEnds (record { image = image; certificate = certificate; board = board; budget = budget }) old new a line × (now ≡ before)
 TaskEnds (run image board input supplies) budget steps old new before now a line =
     RunEnds (record { image = image; board = board; input = input; supplies = supplies; budget = budget; steps = steps }) old new before now a line
 TaskEnds (say program input) budget steps old new before now a line =

@@ -6,12 +6,14 @@ use Rattle.job_files.specs.Answers.{Answer, no_memory, not_built, usage, write_f
 use Rattle.job_files.specs.Text.{Text, output}
 use Rattle.build_job.specs.Build.{Build}
 use Rattle.build_job.specs.Building.{BuildCauses}
+use Rattle.check_job.specs.Check.{Check}
+use Rattle.check_job.specs.Checking.{CheckCauses}
 use Rattle.run_job.specs.Boxes.{Box}
 use Rattle.run_job.specs.Run.{Run}
 use Rattle.run_job.specs.Running.{RunCauses}
 use Rattle.say_job.specs.Say.{Say}
 use Rattle.say_job.specs.Saying.{SayCauses}
-use Rattle.commands.specs.Words.{AskBuild, AskRun, AskSay, AskUnbuilt}
+use Rattle.commands.specs.Words.{AskBuild, AskCheck, AskRun, AskSay, AskUnbuilt}
 
 -- a build that the words ask for comes to this answer
 abbrev pub AsksBuild : List Text → Files → Answer → Type 0
@@ -25,9 +27,13 @@ AsksRun words files boxes a = (job : Run) × AskRun words job × RunCauses job f
 abbrev pub AsksSay : List Text → Files → Answer → Type 0
 AsksSay words files a = (job : Say) × AskSay words job × SayCauses job files a
 
+-- a check that the words ask for comes to this answer
+abbrev pub AsksCheck : List Text → Files → Answer → Type 0
+AsksCheck words files a = (job : Check) × AskCheck words job × CheckCauses job files a
+
 -- what the words ask for comes to this answer
 abbrev pub AsksFor : List Text → Files → List Box → Answer → Type 0
-AsksFor words files boxes a = AsksBuild words files a ⊎ (AsksRun words files boxes a ⊎ AsksSay words files a)
+AsksFor words files boxes a = AsksBuild words files a ⊎ (AsksRun words files boxes a ⊎ (AsksSay words files a ⊎ AsksCheck words files a))
 
 -- Why a call comes to each answer, by its words, the files and what the boxes hold as it begins; that the output failed says
 -- nothing of them.

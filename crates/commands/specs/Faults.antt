@@ -7,11 +7,12 @@ use Rattle.job_files.specs.Answers.{Answer, IsDecided, no_memory, not_built, rea
 use Rattle.job_files.specs.Reads.{IsAmong, Wanted}
 use Rattle.job_files.specs.Text.{Text, output}
 use Rattle.build_job.specs.Build.{Build, build_files}
+use Rattle.check_job.specs.Check.{Check, check_files}
 use Rattle.run_job.specs.Boxes.{Box, BoxRose}
 use Rattle.run_job.specs.Run.{Run, run_files}
 use Rattle.say_job.specs.Say.{Say, say_files}
 use Rattle.commands.specs.Causes.{HasCause}
-use Rattle.commands.specs.Words.{AskBuild, AskRun, AskSay, AskUnbuilt}
+use Rattle.commands.specs.Words.{AskBuild, AskCheck, AskRun, AskSay, AskUnbuilt}
 
 -- the words of a build name the file as one that is read, which may have so many bytes
 abbrev pub IsBuildRead : List Text → Wanted → Type 0
@@ -25,9 +26,13 @@ IsRunRead words w = (job : Run) × AskRun words job × IsAmong (run_files job) w
 abbrev pub IsSayRead : List Text → Wanted → Type 0
 IsSayRead words w = (job : Say) × AskSay words job × IsAmong (say_files job) w
 
+-- the words of a check name the file as one that is read, which may have so many bytes
+abbrev pub IsCheckRead : List Text → Wanted → Type 0
+IsCheckRead words w = (job : Check) × AskCheck words job × IsAmong (check_files job) w
+
 -- the words name the file as one that is read, which may have so many bytes
 abbrev pub IsToRead : List Text → Wanted → Type 0
-IsToRead words w = IsBuildRead words w ⊎ (IsRunRead words w ⊎ IsSayRead words w)
+IsToRead words w = IsBuildRead words w ⊎ (IsRunRead words w ⊎ (IsSayRead words w ⊎ IsCheckRead words w))
 
 -- the words name the file as the image
 abbrev pub IsToWrite : List Text → Text → Type 0

@@ -1,9 +1,10 @@
--- What the words of the command line ask for: a build, a run, a say, or a job that isn't built yet.
+-- What the words of the command line ask for: a build, a check, a run, a say, or a job that isn't built yet.
 use Rattle.std.specs.Prelude.{◌≡◌, ℕ, List, Option, Some, Bool, true, false, map}
 use denote.Bor.{Bor}
-use Rattle.job_parts.specs.Asked.{Request, Task, asked, build, run, say}
+use Rattle.job_parts.specs.Asked.{Request, Task, asked, build, check, run, say}
 use Rattle.job_files.specs.Text.{Text}
 use Rattle.build_job.specs.Build.{Build}
+use Rattle.check_job.specs.Check.{Check}
 use Rattle.run_job.specs.Run.{Run}
 use Rattle.say_job.specs.Say.{Say}
 
@@ -14,6 +15,7 @@ words_in words = map (λ word. word.now) words
 -- the jobs that are built
 abbrev pub is_built : Task → Bool
 is_built (build program board image certificate) = true
+is_built (check image certificate board) = true
 is_built (run image board input supplies) = true
 is_built (say program input) = true
 is_built task = false
@@ -28,6 +30,11 @@ pub record AskUnbuilt (words : List Text) : Type 0 where
 pub record AskBuild (words : List Text) (job : Build) : Type 0 where
   pub steps : ℕ
   pub asks : asked words ≡ Some (record { task = build job.program job.board job.image job.certificate; budget = job.budget; steps = steps })
+
+-- the words ask for this check, with any number of steps, which a check doesn't use
+pub record AskCheck (words : List Text) (job : Check) : Type 0 where
+  pub steps : ℕ
+  pub asks : asked words ≡ Some (record { task = check job.image job.certificate job.board; budget = job.budget; steps = steps })
 
 -- the words ask for this run
 pub record AskRun (words : List Text) (job : Run) : Type 0 where

@@ -10,6 +10,8 @@ ghost use Rattle.job_files.specs.Text.{output};
 ghost use Rattle.build_job.specs.Build.{Build};
 ghost use Rattle.build_job.specs.Ends.{BuildEnds};
 ghost use Rattle.build_job.specs.InCode.{build_named};
+ghost use Rattle.check_job.specs.Ends.{CheckEnds};
+ghost use Rattle.check_job.specs.InCode.{check_named};
 ghost use Rattle.run_job.specs.Boxes.{FitBoxes, boxes_seen};
 ghost use Rattle.run_job.specs.Ends.{RunEnds};
 ghost use Rattle.run_job.specs.InCode.{run_named};
@@ -29,6 +31,7 @@ ghost use Rattle.commands.specs.Words.{AskBuild, words_in};
 
 use base_io::{Memory, Sink, Store};
 use build_job::{BuildJob, build};
+use check_job::{CheckJob, check};
 use job_files::{Ending, Status, put_line, told};
 use job_parts::{Asked, Job, read_words};
 use lowered_images::lowered_images_agree;
@@ -47,7 +50,7 @@ pub enum Beginning {
 
 /// Does the job that the words after the program's name ask for, which are read as `job_parts::read_words` says:
 /// `build PROG BOARD IMAGE CERT` builds the image of a program for a board and writes it under IMAGE. Words without a reading, and
-/// those of a job that isn't built yet, touch no file. `run IMAGE BOARD INPUT SUPPLY...` emulates an image: the file of
+/// those of a job that isn't built yet, touch no file. `check IMAGE CERT BOARD` tests an image by its certificate on a board. `run IMAGE BOARD INPUT SUPPLY...` emulates an image: the file of
 /// each SUPPLY is loaded into the box of its place, behind the rows that the box holds, and further boxes are dropped. As the call
 /// ends, `supplies` holds the boxes that weren't dropped. `say PROG INPUT` runs the plain meaning of a C program. It puts one line
 /// that tells how the job ended, or the lines of a run or of a say.
@@ -172,7 +175,19 @@ fn job_begun<S: Store>(
             };
             say_begun(alloc, &job, store)
         }
-        Job::Check { .. } => unbuilt(alloc),
+        Job::Check {
+            image,
+            certificate,
+            board,
+        } => {
+            let job = CheckJob {
+                image,
+                certificate,
+                board,
+                budget: asked.budget,
+            };
+            check_begun(alloc, &job, store)
+        }
         Job::Plan { .. } => unbuilt(alloc),
         Job::Gen { .. } => unbuilt(alloc),
     }
@@ -208,6 +223,26 @@ fn build_begun<S: Store>(alloc: Global, job: &BuildJob, store: &mut S) -> Result
         (seen_of S.files S.read_faults S.write_faults S.bad_name store.new)) }
 {
     match build(alloc, job, store) {
+        Ok(ending) => Ok(Beginning::Ends(ending)),
+        Err(e) => Err(e),
+    }
+}
+
+// What a check comes to: it always ends.
+fn check_begun<S: Store>(alloc: Global, job: &CheckJob, store: &mut S) -> Result<Beginning, Memory>
+    ensures { MatchResult result
+        (λ e. MatchBeginning e
+        (λ ending. CheckEnds (check_named job.now)
+        (seen_of S.files S.read_faults S.write_faults S.bad_name store.old)
+        (seen_of S.files S.read_faults S.write_faults S.bad_name store.new)
+        (answer_of ending.status) (string_bytes ending.line))
+        (λ opened. ⊥)
+        (λ opened. ⊥))
+        (λ _. IsUnwritten
+        (seen_of S.files S.read_faults S.write_faults S.bad_name store.old)
+        (seen_of S.files S.read_faults S.write_faults S.bad_name store.new)) }
+{
+    match check(alloc, job, store) {
         Ok(ending) => Ok(Beginning::Ends(ending)),
         Err(e) => Err(e),
     }

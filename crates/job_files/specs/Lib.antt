@@ -1,6 +1,7 @@
 pub mod Text
 -- how a job may end
 pub mod Operations
+pub mod Rules
 pub mod Refusals
 pub mod Answers
 -- what jobs read

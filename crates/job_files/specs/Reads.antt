@@ -20,6 +20,10 @@ most_board = 65536
 abbrev pub most_image : ℕ
 most_image = 262144
 
+-- of a certificate
+abbrev pub most_certificate : ℕ
+most_certificate = 8388608
+
 -- of an input, or of a supply
 abbrev pub most_input : ℕ
 most_input = 4194304

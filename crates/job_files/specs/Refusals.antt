@@ -1,8 +1,12 @@
 -- Why what the files of a job hold is refused, with the exit status and the line of each refusal.
-use Rattle.std.specs.Prelude.{ℕ, ◌++◌, codes, decimal, string_bytes}
+use Rattle.std.specs.Prelude.{ℕ, ℤ, ◌++◌, codes, decimal, string_bytes}
+use Rattle.std.specs.Fmt.{signed_decimal}
+use Rattle.base_io.specs.Digits.{hex_word}
 use Rattle.base_io.specs.declared.place.Place.{Place}
+use Rattle.cert_rules.specs.declared.Rule.{Rule}
 use Rattle.flow_graph.specs.declared.graph.OpKind.{OpKind}
 use Rattle.job_files.specs.Operations.{operation_text}
+use Rattle.job_files.specs.Rules.{rule_text}
 use Rattle.job_files.specs.declared.refusal.BoardRefusal.TheVariants.{NotToml, Missing, OutOfRange, Extra}
 use Rattle.job_files.specs.declared.refusal.ProgramRefusal.TheVariants as program
 use Rattle.job_files.specs.declared.refusal.ImageRefusal.TheVariants.{BadByte, Overlap, PastEnd, Unmapped, NoEnd}
@@ -22,6 +26,7 @@ pub data Refusal : Type 0 where
   data_too_large : ℕ → ℕ → Refusal
   budget_too_small : OpKind → Place → ℕ → ℕ → Refusal
   code_too_large : ℕ → ℕ → Refusal
+  certificate_refused : Rule → ℕ → ℤ → ℤ → Refusal
 
 abbrev pub refusal_of : CodeRefusal → Refusal
 refusal_of (refusal.Program fault place) = program_refused fault place
@@ -32,6 +37,7 @@ refusal_of (refusal.Text name at) = text_refused (string_bytes name) at
 refusal_of (refusal.DataTooLarge need room) = data_too_large need room
 refusal_of (refusal.BudgetTooSmall op place need budget) = budget_too_small op place need budget
 refusal_of (refusal.CodeTooLarge need room) = code_too_large need room
+refusal_of (refusal.Certificate rule address left right) = certificate_refused rule address left right
 
 -- the exit status
 abbrev pub refusal_code : Refusal → ℕ
@@ -43,6 +49,7 @@ refusal_code (text_refused name at) = 13
 refusal_code (data_too_large need room) = 9
 refusal_code (budget_too_small op place need budget) = 8
 refusal_code (code_too_large need room) = 10
+refusal_code (certificate_refused rule address left right) = 12
 
 -- `: FAULT KEY`; a document that isn't TOML has no key
 abbrev pub board_text : BoardRefusal → Text → Text
@@ -89,3 +96,5 @@ refusal_line (data_too_large need room) = codes "data too large: " ++ (decimal n
 refusal_line (budget_too_small op place need budget) =
     codes "budget too small: " ++ (operation_text op ++ (codes " at " ++ (decimal place.line ++ (codes ":" ++ (decimal place.column ++ (codes " needs " ++ (decimal need ++ (codes " of " ++ (decimal budget ++ codes "\n")))))))))
 refusal_line (code_too_large need room) = codes "code too large: " ++ (decimal need ++ (codes " of " ++ (decimal room ++ codes "\n")))
+refusal_line (certificate_refused rule address left right) =
+    codes "certificate refused: " ++ (rule_text rule ++ (codes " at " ++ (hex_word address ++ (codes ": " ++ (signed_decimal left ++ (codes " against " ++ (signed_decimal right ++ codes "\n")))))))

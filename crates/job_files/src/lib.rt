@@ -2,6 +2,7 @@
 #![tactic(auto)]
 
 mod boards;
+mod digits;
 mod ending;
 mod files;
 mod images;
@@ -9,6 +10,7 @@ mod inputs;
 mod limits;
 mod operations;
 mod refusal;
+mod rules;
 mod status;
 
 pub use boards::board_with;
@@ -16,6 +18,6 @@ pub use ending::{Ending, put_line, told};
 pub use files::{TwoTexts, add, read, read_two};
 pub use images::image_of;
 pub use inputs::{input_of, text_refused};
-pub use limits::{MOST_BOARD, MOST_IMAGE, MOST_INPUT, MOST_PROGRAM};
+pub use limits::{MOST_BOARD, MOST_CERTIFICATE, MOST_IMAGE, MOST_INPUT, MOST_PROGRAM};
 pub use refusal::{BoardRefusal, ImageRefusal, ProgramRefusal, Refusal};
 pub use status::{Status, status_of};

@@ -9,5 +9,8 @@ pub const MOST_BOARD: usize = 65_536;
 /// Of the text of an image.
 pub const MOST_IMAGE: usize = 262_144;
 
+/// Of a certificate.
+pub const MOST_CERTIFICATE: usize = 8_388_608;
+
 /// Of an input, or of a supply.
 pub const MOST_INPUT: usize = 4_194_304;

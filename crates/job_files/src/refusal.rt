@@ -1,9 +1,12 @@
 //! Why what the files of a job hold is refused. Each refusal has its code and its line here, and stands in the job that gives it.
 ghost use Rattle.std.specs.Prelude.{◌≡◌, IfOk, string_bytes};
-ghost use Rattle.job_files.specs.Refusals.{board_refused, budget_too_small, image_refused, program_refused, program_text, refusal_code, refusal_line, refusal_of};
+ghost use Rattle.job_files.specs.Refusals.{board_refused, budget_too_small, certificate_refused, image_refused, program_refused, program_text, refusal_code, refusal_line, refusal_of};
 
+use crate::digits::hex_digit;
 use crate::operations::operation_name;
+use crate::rules::rule_name;
 use base_io::Place;
+use cert_rules::Rule;
 use flow_graph::OpKind;
 use std::alloc::{AllocError, Global};
 
@@ -69,7 +72,7 @@ pub enum Refusal {
         fault: ImageRefusal,
         at: usize,
     },
-    /// The input or supply text isn't in its grammar; `at` is an offset in bytes.
+    /// The input, supply or certificate text isn't in its grammar; `at` is an offset in bytes.
     Text {
         name: String,
         at: usize,
@@ -91,6 +94,13 @@ pub enum Refusal {
         need: u32,
         room: u32,
     },
+    /// The image, with its certificate, breaks a rule at this address; these are the two values that don't fit.
+    Certificate {
+        rule: Rule,
+        address: u16,
+        left: i128,
+        right: i128,
+    },
 }
 
 impl Refusal {
@@ -107,6 +117,7 @@ impl Refusal {
             Refusal::DataTooLarge { .. } => 9,
             Refusal::BudgetTooSmall { .. } => 8,
             Refusal::CodeTooLarge { .. } => 10,
+            Refusal::Certificate { .. } => 12,
         }
     }
 }
@@ -133,6 +144,12 @@ pub fn refusal_line(alloc: Global, refusal: &Refusal) -> Result<String, AllocErr
         Refusal::CodeTooLarge { need, room } => {
             format!(in alloc; "code too large: {need} of {room}\n")
         }
+        Refusal::Certificate {
+            rule,
+            address,
+            left,
+            right,
+        } => certificate_line(alloc, *rule, *address, *left, *right),
     }
 }
 
@@ -184,6 +201,24 @@ fn budget_line(
     let name = operation_name(op);
     let Place { line, column } = place;
     format!(in alloc; "budget too small: {name} at {line}:{column} needs {need} of {budget}\n")
+}
+
+// The line of a refused certificate.
+fn certificate_line(
+    alloc: Global,
+    rule: Rule,
+    address: u16,
+    left: i128,
+    right: i128,
+) -> Result<String, AllocError>
+    ensures { IfOk result (λ line. string_bytes line ≡ refusal_line (certificate_refused rule address left right)) }
+{
+    let name = rule_name(rule);
+    let a = hex_digit(address / 4096);
+    let b = hex_digit(address / 256 % 16);
+    let c = hex_digit(address / 16 % 16);
+    let d = hex_digit(address % 16);
+    format!(in alloc; "certificate refused: {name} at {a}{b}{c}{d}: {left} against {right}\n")
 }
 
 // The line of a refused image.

@@ -1,0 +1,5 @@
+pub mod OneVerdict
+pub mod RefusedTexts
+pub mod Reading
+pub mod Ending
+pub mod OneCheck
