@@ -38,7 +38,7 @@ HoldsCode blocks a is = (k w : ℕ) → slice_get (flat_map words_of is) k ≡ S
 
 -- ---- Words of lists
 
-get_first : (xs ys : List ℕ) (k : ℕ) (w : ℕ) → slice_get xs k ≡ Some w → slice_get (xs ++ ys) k ≡ Some w
+pub get_first : (xs ys : List ℕ) (k : ℕ) (w : ℕ) → slice_get xs k ≡ Some w → slice_get (xs ++ ys) k ≡ Some w
 get_first [] ys k w e = absurd (let no : false ≡ true = ap (λ o. is_some o) e in cc)
 get_first (x ∷ xs) ys zero w e = e
 get_first (x ∷ xs) ys (suc k) w e = get_first xs ys k w e
@@ -262,13 +262,13 @@ held t a i is h = words_there t a (length_of i) (λ k low.
     let w = some_word (words_of i) k (omega (arith, low, long)) in
     ap (λ o. is_some o) (holds_here t.blocks a i is h k w.0 w.1))
 
-eq_is : (x y : ℕ) → x ≡ y → (x == y) ≡ true
+pub eq_is : (x y : ℕ) → x ≡ y → (x == y) ≡ true
 eq_is x y h = grind (arith, nat_tests)
 
-le_is : (x y : ℕ) → x ≤ y → nat_le x y ≡ true
+pub le_is : (x y : ℕ) → x ≤ y → nat_le x y ≡ true
 le_is x y h = grind (arith, nat_tests)
 
-three_and : (b c d : Bool) → b ≡ true → c ≡ true → d ≡ true → b && c && d ≡ true
+pub three_and : (b c d : Bool) → b ≡ true → c ≡ true → d ≡ true → b && c && d ≡ true
 three_and b c d e f g = ap (λ z. z && c && d) e ∙ ap (λ z. z && d) f ∙ g
 
 is_fitting : (t : Sheet) (a : ℕ) (i : Instr) (is : List Instr) → CodeStands t a (i ∷ is) → is_form i ≡ true → form_fault t a (AnInstruction i) ≡ None

@@ -46,7 +46,7 @@ address_later a (j ∷ is) k i e =
     let above = address_above (a + 2 * length_of j) is k in
     omega (arith, some, above)
 
-some_bytes : (a : ℕ) (is : List Instr) (i : Instr) → slice_get is 0 ≡ Some i → a < behind a is
+pub some_bytes : (a : ℕ) (is : List Instr) (i : Instr) → slice_get is 0 ≡ Some i → a < behind a is
 some_bytes a [] i e = absurd (let no : false ≡ true = ap (λ o. is_some o) e in cc)
 some_bytes a (j ∷ is) i e =
     let some = length_some j in
@@ -60,7 +60,7 @@ head_behind false a = none a
     none : (n : ℕ) → n ≡ n + 0
     none n = omega arith
 
-bytes_behind : (a h : ℕ) (is : List Instr) → behind (a + h) is ≡ a + (h + bytes_of_code is)
+pub bytes_behind : (a h : ℕ) (is : List Instr) → behind (a + h) is ≡ a + (h + bytes_of_code is)
 bytes_behind a h is = behind_is (a + h) is ∙ moved a h (bytes_of_code is)
   where
     moved : (n m k : ℕ) → n + m + k ≡ n + (m + k)
@@ -74,7 +74,7 @@ stretch_of p a st = if p.has_head then a else st
 abbrev pub spent_before : Sheet → Position → ℕ → ℕ
 spent_before t p n = if p.has_head then wake_cost t.board else n
 
-abbrev row_of : Sheet → Homes → Position → List Position → ℕ → StretchRow
+abbrev pub row_of : Sheet → Homes → Position → List Position → ℕ → StretchRow
 row_of t homes p ps a = record { head = a; chain = 1; turns = 0; cost = wake_cost t.board + sleep_cost t.board + (weight_of t.board (code_at homes p) + cost_to_head t.board homes ps) }
 
 limit_there : (t : Sheet) (a : ℕ) (row : StretchRow) → t.here.flat ≡ None → head_at t.stretches a ≡ Some row → limit_of t a ≡ row.cost

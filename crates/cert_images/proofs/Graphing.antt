@@ -42,7 +42,7 @@ nodes_length : (xs : List Owned) → length (nodes xs) ≡ length xs
 nodes_length [] = refl
 nodes_length (x ∷ xs) = ap (λ n. suc n) (nodes_length xs)
 
-get_within : {A : Type 0} → (xs : List A) (k : ℕ) (x : A) → slice_get xs k ≡ Some x → k < length xs
+pub get_within : {A : Type 0} → (xs : List A) (k : ℕ) (x : A) → slice_get xs k ≡ Some x → k < length xs
 get_within [] k x e = absurd (let no : false ≡ true = ap (λ o. is_some o) e in cc)
 get_within (y ∷ ys) zero x e = omega arith
 get_within (y ∷ ys) (suc k) x e = let h = get_within ys k x e in omega (arith, h)
@@ -77,7 +77,7 @@ module _ (g : Graph) (rules : IsGraph g) (alone : IsAlone g) (homes : HaveHomes 
   is_closed : IsClosed g
   is_closed = closed g rules
 
-  count_is : length (graph_nodes g) ≡ length (operations g)
+  pub count_is : length (graph_nodes g) ≡ length (operations g)
   count_is = ap (λ (ns : List Node). length ns) (sym (nodes-owned_from 0 g.functions)) ∙ nodes_length (operations g)
 
   there : (i : ℕ) (x : Node) → slice_get (graph_nodes g) i ≡ Some x → OwnedAt (operations g) i x

@@ -8,3 +8,7 @@ pub mod Wording
 pub mod Placing
 pub mod Graphing
 pub mod Sheeting
+pub mod Tabling
+pub mod Inside
+pub mod Costing
+pub mod Certifying

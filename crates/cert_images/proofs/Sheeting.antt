@@ -82,7 +82,7 @@ head_ends false a = let e : a ≡ a + 0 = omega arith in e
 sums : (a h c r : ℕ) → a + h + c ≡ a + (h + c)
 sums a h c r = omega arith
 
-code_ends_at : (homes : Homes) (a : ℕ) (ps : List Position) → behind a (code_from homes a ps) ≡ a + bytes_of_all homes ps
+pub code_ends_at : (homes : Homes) (a : ℕ) (ps : List Position) → behind a (code_from homes a ps) ≡ a + bytes_of_all homes ps
 code_ends_at homes a [] = let e : a ≡ a + 0 = omega arith in e
 code_ends_at homes a (p ∷ ps) =
     let is = code_of (code_at homes p) in
@@ -93,17 +93,17 @@ code_ends_at homes a (p ∷ ps) =
 -- ---- The image of a graph
 
 module _ (b : Board) (heads : ℕ → Bool) (g : Graph) (rules : IsGraph g) (few : data_bytes g ≤ most_data) (room : code_words heads g ≤ 0x3FC0) where
-  abbrev whole : Function
+  abbrev pub whole : Function
   whole = record { start = 0x8012; end = 0x8012 + bytes_of_all (fram_homes g) (positions heads g); height = 1; flat = None }
 
   abbrev pub sheet_of : Sheet
   sheet_of = sheet (graph_blocks heads g) (graph_certificate b heads g) b true whole
 
-  all_words : HoldsCode (graph_blocks heads g) 0x8000 (boot ++ chosen_code 9 (pieces (fram_template g) heads g))
+  pub all_words : HoldsCode (graph_blocks heads g) 0x8000 (boot ++ chosen_code 9 (pieces (fram_template g) heads g))
   all_words = λ k w e. word_of_block 0 (record { start = 0x1800; bytes = bytes_of (1 ∷ 0x8024 ∷ 0x8000 ∷ []) } ∷ data_blocks g) 0x8000 (flat_map words_of (boot ++ chosen_code 9 (pieces (fram_template g) heads g)))
       (record { start = 0xFFFE; bytes = bytes_of (0x8000 ∷ []) } ∷ []) (are_images heads g rules few room) k w e
 
-  code_is : chosen_code 9 (pieces (fram_template g) heads g) ≡ code_from (fram_homes g) 0x8012 (positions heads g)
+  pub code_is : chosen_code 9 (pieces (fram_template g) heads g) ≡ code_from (fram_homes g) 0x8012 (positions heads g)
   code_is = code_same g heads (address_of (fram_template g) heads g) 9 (graph_nodes g)
 
   is_low : 0x8012 + bytes_of_all (fram_homes g) (positions heads g) ≤ 0xFF80
