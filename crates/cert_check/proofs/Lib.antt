@@ -1,3 +1,4 @@
 pub mod One
 pub mod Ready
 pub mod All
+pub mod Moments

@@ -1,5 +1,5 @@
 -- What the rules before the sweep leave for it.
-use Rattle.std.proofs.Common.{◌≡◌, ℕ, ◌+◌, ◌≤◌, Bool, true, false, List, [], ◌∷◌, Option, Some, None, refl, subst, arith}
+use Rattle.std.proofs.Common.{◌≡◌, ℕ, ◌+◌, ◌≤◌, Bool, true, false, List, [], ◌∷◌, map, Option, Some, None, refl, subst, arith}
 use Rattle.std.specs.Prelude.{◌==◌, ◌%◌, ◌&&◌, ◌||◌, nat_le, is_some, if◌then◌else◌, pos}
 use Rattle.std.specs.Option.{option_or}
 use Rattle.std.proofs.lemmas.Bool.{and_parts}
@@ -7,14 +7,17 @@ use Rattle.std.proofs.lemmas.Bool.Decides.{nat_tests}
 use Rattle.board_table.specs.declared.board.Board.{Board}
 use Rattle.ti_txt.specs.Image.{Block}
 use Rattle.certificate.specs.declared.cert.StretchRow.{StretchRow}
-use Rattle.certificate.specs.Rows.{Function, Point, Certificate}
-use Rattle.certificate.specs.Grammar.{IsPoint, AreFunctions, ArePoints, IsCertificate}
+use Rattle.certificate.specs.declared.cert.FunctionRow.{FunctionRow}
+use Rattle.certificate.specs.declared.cert.PointRow.{PointRow}
+use Rattle.certificate.specs.Rows.{Function, Point, Certificate, function_of, point_of}
+use Rattle.certificate.specs.Grammar.{IsPoint, AreFunctions, AreStretches, ArePoints, IsCertificate}
 use Rattle.cert_rules.specs.declared.Rule.{Rule}
 use Rattle.cert_rules.specs.declared.Rule.TheVariants.{Head}
 use Rattle.cert_rules.specs.Words.{head_bytes}
 use Rattle.cert_rules.specs.Faults.{Fault, unless, first_of}
 use Rattle.cert_rules.specs.Tables.{any_of, head_at, point_at, is_split, lies_in, head_fault, board_fault, boot_fault, functions_fault, code_end, tables_fault}
 use Rattle.cert_rules.specs.Sweep.{sheet}
+use Rattle.cert_sweep.specs.Rising.{Rises}
 use Rattle.cert_sweep.specs.Stepping.{IsReady}
 
 none_first : (o p : Option Fault) → option_or o p ≡ None → (o ≡ None) × (p ≡ None)
@@ -67,6 +70,20 @@ heads_hold blocks c b h =
     let two = none_first (boot_fault blocks c.functions) _ one.1 in
     let three = none_first (functions_fault (code_end blocks) c.functions) _ two.1 in
     (none_first (first_of (head_fault blocks c.functions) c.stretches) _ three.1).0
+
+-- rows that ascend rise by their numbers
+
+pub starts_rise : (low : ℕ) (functions : List FunctionRow) → AreFunctions low (map function_of functions) → Rises (λ f. f.start) low functions
+starts_rise low [] are = tt
+starts_rise low (f ∷ functions) are = (are.0, starts_rise (f.start + 1) functions are.2)
+
+pub heads_rise : (low : ℕ) (stretches : List StretchRow) → AreStretches low stretches → Rises (λ s. s.head) low stretches
+heads_rise low [] are = tt
+heads_rise low (s ∷ stretches) are = (are.0, heads_rise (s.head + 1) stretches are.2)
+
+pub addresses_rise : (low : ℕ) (points : List PointRow) → ArePoints low (map point_of points) → Rises (λ p. p.address) low points
+addresses_rise low [] are = tt
+addresses_rise low (p ∷ points) are = (are.0, addresses_rise (p.address + 1) points are.2)
 
 pub ready : (blocks : List Block) (c : Certificate) (b : Board) (first : Bool) (f : Function) → IsCertificate c → tables_fault blocks c.budget c.functions c.stretches b ≡ None → IsReady (sheet blocks c b first f)
 ready blocks c b first f is h = record {

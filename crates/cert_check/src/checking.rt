@@ -9,11 +9,11 @@ ghost use Rattle.cert_rules.specs.Tables.{point_fault, tables_fault};
 ghost use Rattle.cert_state.specs.Shown.{functions_in, shown_fault};
 ghost use Rattle.cert_sweep.specs.Views.{points_in};
 ghost use Rattle.cert_check.specs.declared.refused.Refused.TheVariants.{Rule as Breaks};
-ghost use Rattle.cert_check.specs.Checking.{IsRefusal, RunsSafely};
+ghost use Rattle.cert_check.specs.Checking.{EveryRunIsSafe, IsRefusal, RunsSafely};
 
-use crate::points::point_order;
+use crate::points::order_fault;
 use crate::refused::Refused;
-use crate::row_rules::tables;
+use crate::row_rules::first_fault;
 use base_io::Memory;
 use board_table::Board;
 use cert_state::Fault;
@@ -32,7 +32,7 @@ fn points_order(
 {
     let mut rest = points;
     while let [first, after @ ..] = rest {
-        if let Some(fault) = point_order(first, functions, stretches) {
+        if let Some(fault) = order_fault(first, functions, stretches) {
             return Some(fault);
         }
         rest = after;
@@ -97,7 +97,7 @@ fn verdict(alloc: Global, img: &Image, c: &Cert, b: &Board) -> Result<Option<Fau
 {
     let functions = c.functions.as_slice();
     let stretches = c.stretches.as_slice();
-    if let Some(fault) = tables(img, c.budget, functions, stretches, b) {
+    if let Some(fault) = first_fault(img, c.budget, functions, stretches, b) {
         return Ok(Some(fault));
     }
     if let Some(fault) = points_order(c.points.as_slice(), functions, stretches) {
@@ -106,7 +106,8 @@ fn verdict(alloc: Global, img: &Image, c: &Cert, b: &Board) -> Result<Option<Fau
     sweep_all(alloc, img, c, b)
 }
 
-fn refusal(fault: Fault) -> Refused
+/// A rule that is broken, as a refusal.
+pub fn refusal(fault: Fault) -> Refused
     ensures { result ≡ Breaks fault.rule fault.address fault.left fault.right }
 {
     Refused::Rule {
@@ -122,6 +123,7 @@ fn refusal(fault: Fault) -> Refused
 pub fn check(alloc: Global, img: &Image, c: &Cert, b: &Board) -> Result<(), Refused>
     ensures certified { IfOk result (λ _. Certified (blocks_of img.now) (certificate_of c.now) b.now) }
     ensures safe { IfOk result (λ _. RunsSafely (blocks_of img.now) (certificate_of c.now) b.now) }
+    ensures every_run { IfOk result (λ _. EveryRunIsSafe (blocks_of img.now) (certificate_of c.now) b.now) }
     ensures refused { IfErr result (λ refused. IsRefusal (blocks_of img.now) (certificate_of c.now) b.now refused) }
 {
     match verdict(alloc, img, c, b) {

@@ -2,16 +2,15 @@
 #![tactic(auto)]
 
 mod checking;
+mod parts;
 mod points;
 mod refused;
 mod row_rules;
 
 pub use cert_rules::Rule;
-pub use cert_state::Fault;
 pub use checking::check;
-pub use points::point_order;
+pub use parts::{point_order, tables};
 pub use refused::Refused;
-pub use row_rules::tables;
 
 #[cfg(test)]
 mod tests;

@@ -39,8 +39,8 @@ fn place_in(stretches: &[StretchRow], p: &PointRow, f: &FunctionRow) -> Option<F
     }
 }
 
-/// Whether a point lies inside a function and outside heads, and is of a stretch of that function.
-pub fn point_order(
+/// How a point breaks the rule that it lies inside a function and outside heads, and is of a stretch of that function.
+pub fn order_fault(
     p: &PointRow,
     functions: &[FunctionRow],
     stretches: &[StretchRow],

@@ -265,7 +265,7 @@ fn budgets_fault(budget: u64, stretches: &[StretchRow]) -> Option<Fault>
 }
 
 /// The first rule on the rows, but those of points, that an image and its certificate break. Energy is in the board's units.
-pub fn tables(
+pub fn first_fault(
     img: &Image,
     budget: u64,
     functions: &[FunctionRow],

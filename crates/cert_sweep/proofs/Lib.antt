@@ -1,4 +1,5 @@
 pub mod Advancing
 pub mod Chains
+pub mod Halves
 pub mod Rows
 pub mod Total

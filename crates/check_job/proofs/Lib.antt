@@ -1,4 +1,3 @@
-pub mod OneVerdict
 pub mod RefusedTexts
 pub mod Reading
 pub mod Ending

@@ -21,7 +21,7 @@ use Rattle.job_files.proofs.OneImage.{image_or, image_same}
 use Rattle.job_files.proofs.OneInput.{none_some, some_same}
 use Rattle.check_job.specs.Check.{Check, CheckTexts, check_files, texts_in}
 use Rattle.check_job.specs.Checking.{AreHeld, CheckCauses, CheckHolds, IsCertificateText, IsCertified, IsImageText, RefusesCheckFiles, RefusesRules}
-use Rattle.check_job.proofs.OneVerdict.{one_verdict}
+use Rattle.cert_check.proofs.One.{one_verdict}
 
 check_texts_same : (t u : CheckTexts) → texts_in t ≡ texts_in u → t ≡ u
 check_texts_same t u e =

@@ -5,6 +5,7 @@ use Rattle.cert_rules.specs.Sweep.{Certified, Verdict}
 use Rattle.cert_sound.proofs.Soundness.{sound}
 use Rattle.cert_state.specs.Shown.{fault_of, shown_fault}
 use Rattle.cert_check.specs.Checking.{IsRefusal}
+use Rattle.cert_check.proofs.Moments.{every_run}
 use Rattle.cert_check.proofs.One.{excludes}
 use Rattle.cert_check.proofs.checking.check.Goals as goal
 
@@ -14,6 +15,9 @@ returns-in-Ok-None-clause-safe c = λ input s events m small is_first holds gene
     let rows = certificate_of c.args.c.now in
     let certified : Certified blocks rows c.args.b.now = subst (λ o. Verdict blocks rows c.args.b.now (shown_fault o)) c.in-Ok-None.field-0-is c.in-Ok-None.ensures in
     sound blocks rows c.args.b.now input s events m c.args.img.now.ordered certified c.args.c.now.ruled.some small is_first holds generous run
+
+pub returns-in-Ok-None-clause-every_run : goal.returns-in-Ok-None-clause-every_run
+returns-in-Ok-None-clause-every_run c = every_run (blocks_of c.args.img.now) (certificate_of c.args.c.now) c.args.b.now (returns-in-Ok-None-clause-safe c)
 
 pub returns-in-Ok-Some-clause-refused : goal.returns-in-Ok-Some-clause-refused
 returns-in-Ok-Some-clause-refused c =

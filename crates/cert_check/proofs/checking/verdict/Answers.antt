@@ -15,7 +15,7 @@ returns-in-Some c =
     let is : tables_fault blocks rows.budget rows.functions rows.stretches c.args.b.now ≡ Some (fault_of c.in-Some.fault) =
     ap (λ s. tables_fault blocks rows.budget rows.functions s c.args.b.now) (sym c.as_slice-stretches.ensures.value)
     ∙ ap (λ f. tables_fault blocks rows.budget (functions_in f) c.as_slice-stretches.result.now c.args.b.now) (sym c.as_slice-functions.ensures.value)
-    ∙ sym c.tables.ensures ∙ ap shown_fault c.in-Some.is in
+    ∙ sym c.first_fault.ensures ∙ ap shown_fault c.in-Some.is in
     by_tables blocks rows c.args.b.now (fault_of c.in-Some.fault) is
 
 pub returns-in-Some-points_order : goal.returns-in-Some-points_order
@@ -25,7 +25,7 @@ returns-in-Some-points_order c =
     let holds : tables_fault blocks rows.budget rows.functions rows.stretches c.args.b.now ≡ None =
     ap (λ s. tables_fault blocks rows.budget rows.functions s c.args.b.now) (sym c.as_slice-stretches.ensures.value)
     ∙ ap (λ f. tables_fault blocks rows.budget (functions_in f) c.as_slice-stretches.result.now c.args.b.now) (sym c.as_slice-functions.ensures.value)
-    ∙ sym c.tables.ensures ∙ ap shown_fault c.in_default.is in
+    ∙ sym c.first_fault.ensures ∙ ap shown_fault c.in_default.is in
     let is : first_of (point_fault rows.functions rows.stretches) rows.points ≡ Some (fault_of c.in-Some-points_order.fault) =
     ap (λ p. first_of (point_fault rows.functions rows.stretches) (points_in p)) (sym c.as_slice.ensures.value)
     ∙ ap (λ s. first_of (point_fault rows.functions s) (points_in c.as_slice.result.now)) (sym c.as_slice-stretches.ensures.value)

@@ -1,7 +1,7 @@
 use Rattle.std.proofs.Common.{◌≡◌, length}
 use Rattle.cert_rules.specs.Tables.{function_with}
 use Rattle.cert_state.specs.Shown.{functions_in}
-use Rattle.cert_check.proofs.points.point_order.Given as goal
+use Rattle.cert_check.proofs.points.order_fault.Given as goal
 
 -- no function so far has the point
 abbrev pub invariant-loop-rest : goal.invariant-loop-rest
