@@ -7,8 +7,13 @@ use Rattle.flow_graph.specs.declared.graph.Item.TheVariants as item
 use Rattle.loop_checkpoints.specs.Loops as loops
 use Rattle.chain_units.specs.declared.weighing.Behind.TheVariants.{BeforeEither}
 use Rattle.flow_graph.specs.Nodes.{first_of, laid_items}
+use Rattle.std.specs.Option.{option_map}
+use Rattle.std.specs.Prelude.{Vec}
+use Rattle.std.specs.declared.alloc.Global.{Global}
+use Rattle.item_weights.specs.declared.uses.Weights.{Weights}
 use Rattle.chain_units.specs.declared.cutting.Turning as code
-use Rattle.chain_units.specs.Known.{Known, Weighs, or_nothing}
+use Rattle.chain_units.specs.declared.cutting.Greatest as greatests
+use Rattle.chain_units.specs.Known.{Known, Weighs, or_nothing, told_weights}
 use Rattle.chain_units.specs.Wanted.{wanted}
 use Rattle.chain_units.specs.Costs.{one_turn_fits, touched_in_all}
 use Rattle.chain_units.specs.Marks.{is_conditional, loop_weighed, turn_fits, turn_of, turning_of}
@@ -67,15 +72,25 @@ module _ (k : Known) (pre : List Item) (test : Op) (post step : List Item) (behi
   is_same : is_conditional k parts first_op behind ≡ fits_by touched top
   is_same = ap (λ (o : Option Weighs). turn_fits k parts first_op behind o) weighs ∙ sym (ap (λ (ts : List ℕ). fits_by ts top) touches ∙ ap (λ (n : ℕ). fits_by (touched_in_all k parts) n) tops)
 
-  pub turning_tells : (found : Option code.Turning) → MatchOption found (fits_by touched top ≡ false) (λ t. fits_by touched top ≡ true) → IfSome found (λ t. t.first ≡ top)
+  -- the loop with its turn
+  abbrev with_turn : Vec ℕ Global → Weights → greatests.Greatest → code.Turning
+  with_turn vs ws g = record { turn = record { first = top; behind = BeforeEither top behind; touched = vs; weights = ws }; greatest = g }
+
+  pub turning_tells : (vs : Vec ℕ Global) (ws : Weights) → touched ≡ vs.items → w ≡ told_weights ws → (found : Option greatests.Greatest)
+      → MatchOption found (fits_by touched top ≡ false) (λ t. fits_by touched top ≡ true)
       → IfSome found (λ t. IsGreatest (turning_of k touched top behind w) 1024 k.board.budget t.turns t.homes.items t.cost)
-      → MatchOption found (is_conditional k parts first_op behind ≡ false) (IsConditional k pre test post step behind)
-  turning_tells None fits first greatest = is_same ∙ fits
-  turning_tells (Some t) fits first greatest =
+      → MatchOption (option_map (with_turn vs ws) found) (is_conditional k parts first_op behind ≡ false) (IsConditional k pre test post step behind)
+  turning_tells vs ws e e' None fits greatest = is_same ∙ fits
+  turning_tells vs ws e e' (Some t) fits greatest =
       let by_touched = subst (λ (ts : List ℕ). IsGreatest (turning_of k ts top behind w) 1024 k.board.budget t.turns t.homes.items t.cost) touches greatest in
       let by_top = subst (λ (n : ℕ). IsGreatest (loop_weighed k parts n behind w) 1024 k.board.budget t.turns t.homes.items t.cost) tops by_touched in
       record {
         yes = is_same ∙ fits;
-        first = first ∙ tops;
+        turn = record {
+          first = tops;
+          behind = ap (λ (n : ℕ). BeforeEither n behind) tops;
+          touched = sym e ∙ touches;
+          weights = sym e' ∙ sym (ap or_nothing weighs);
+        };
         greatest = subst (λ (o : Option Weighs). IsGreatest (loop_weighed k parts first_op behind (or_nothing o)) 1024 k.board.budget t.turns t.homes.items t.cost) (sym weighs) by_top;
       }

@@ -8,7 +8,7 @@ use Rattle.chain_units.specs.Chains.{Of, PlacedChain, all_of}
 use Rattle.chain_units.specs.Placements.{AreRuns, IsRun}
 use Rattle.chain_units.specs.Planned.{AddsPlans, ArePlans, IsPlanOf}
 
-append-nil : {A : Type 0} (xs : List A) → xs ++ [] ≡ xs
+pub append-nil : {A : Type 0} (xs : List A) → xs ++ [] ≡ xs
 append-nil [] = refl
 append-nil (x ∷ xs) = ap (λ ys. x ∷ ys) (append-nil xs)
 
@@ -32,7 +32,7 @@ module _ (k : Known) where
   pub adds_two : (os ps : List Of) (old mid new : List Chain) → AddsPlans k os old mid → AddsPlans k ps mid new → AddsPlans k (os ++ ps) old new
   adds_two os ps old mid new first second before are = subst (λ (qs : List Of). ArePlans k 1 qs new) (append_assoc before os ps) (second (before ++ os) (first before are))
 
-  all_of-append : (f : ℕ) (cs ds : List PlacedChain) → all_of f (cs ++ ds) ≡ all_of f cs ++ all_of f ds
+  pub all_of-append : (f : ℕ) (cs ds : List PlacedChain) → all_of f (cs ++ ds) ≡ all_of f cs ++ all_of f ds
   all_of-append f [] ds = refl
   all_of-append f (c ∷ cs) ds = ap (λ (os : List Of). record { function = f; chain = c } ∷ os) (all_of-append f cs ds)
 

@@ -16,3 +16,5 @@ pub mod Loops
 pub mod ConditionalLemmas
 pub mod Fitting
 pub mod Following
+pub mod ExplainedUnits
+pub mod ExplainedChains

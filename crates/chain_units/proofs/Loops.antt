@@ -15,7 +15,7 @@ use Rattle.chain_units.specs.Known.{Known}
 use Rattle.chain_units.specs.Marks.{Alone, Closes, Flat, Joins, Mark, are_flat, ends, flat_or, is_conditional, marks_of, placed_items, some_continues, turn_of}
 use Rattle.chain_units.specs.Parts.{IsConditional, IsLoopOf, branch_parts, close_if, loop_parts, split_parts, switch_parts}
 use Rattle.chain_units.specs.Planned.{IsGreatest, turning_by}
-use Rattle.chain_units.specs.Placements.{HasClosed, IsTurningOf, Places, StandsAlone}
+use Rattle.chain_units.specs.Placements.{HasClosed, IsTurnBy, IsTurningOf, Places, StandsAlone}
 use Rattle.chain_units.proofs.Meeting.{places_alone, places_close, places_none, places_two}
 
 if_not : (t : Bool) (x y : List Mark) → t ≡ false → (if t then x else y) ≡ y
@@ -65,8 +65,9 @@ module _ (k : Known) (x : Item) (pre : List Item) (test : Op) (post step : List 
   turning_is n t of is =
       let whole = Loop pre test post step back of.count in
       subst (λ (y : Item). IsTurningOf k y n t) (sym of.parts) (record {
-        first = is.first ∙ sym (ap (λ l. l.first n) (laid-Loop pre test post step back of.count));
-        greatest = subst (λ (l : Item-F Item). IsGreatest (turning_by k l n) 1024 k.board.budget t.turns t.homes.items t.cost) (sym (outs-Loop pre test post step back of.count)) is.greatest;
+        first = is.turn.first ∙ sym (ap (λ l. l.first n) (laid-Loop pre test post step back of.count));
+        turn = subst (λ (l : Item-F Item). IsTurnBy k l n t.turn) (sym (outs-Loop pre test post step back of.count)) is.turn;
+        greatest = subst (λ (l : Item-F Item). IsGreatest (turning_by k l n) 1024 k.board.budget t.greatest.turns t.greatest.homes.items t.greatest.cost) (sym (outs-Loop pre test post step back of.count)) is.greatest;
       })
 
   pub loop_alone : (t : code.Turning) (old mid new : Placer) → IsLoopOf x pre test post step back → HasClosed old mid → IsConditional k pre test post step c.behind t → StandsAlone mid t new

@@ -15,7 +15,7 @@ use Rattle.chain_units.specs.Pieces.{ArePieces, pieces_behind, pieces_costs, pie
 use Rattle.chain_units.specs.Planned.{all_items, chain_costs, stretch_weighed, unit_items, units_behind, units_first, units_sum, units_weighed}
 
 module _ (k : Known) where
-  sum_same : (w : Weighs) (us : List ChainUnit) (ps : List Piece) → ArePieces k us ps → pieces_sum w ps ≡ units_sum k w us
+  pub sum_same : (w : Weighs) (us : List ChainUnit) (ps : List Piece) → ArePieces k us ps → pieces_sum w ps ≡ units_sum k w us
   sum_same w [] [] are = refl
   sum_same w (u ∷ us) (p ∷ ps) are = ap (λ (v : Weighs). pieces_sum (both w v) ps) are.0.weights ∙ sum_same (both w (or_nothing (k.weights (unit_items u)))) us ps are.1
   sum_same w [] (p ∷ ps) are = absurd are
@@ -25,7 +25,7 @@ module _ (k : Known) where
   touched-append [] ys = refl
   touched-append (x ∷ xs) ys = ap (λ (zs : List ℕ). touched_in k x ++ zs) (touched-append xs ys) ∙ sym (append_assoc (touched_in k x) (touched_in_all k xs) (touched_in_all k ys))
 
-  touched_same : (us : List ChainUnit) (ps : List Piece) → ArePieces k us ps → pieces_touched ps ≡ touched_in_all k (all_items us)
+  pub touched_same : (us : List ChainUnit) (ps : List Piece) → ArePieces k us ps → pieces_touched ps ≡ touched_in_all k (all_items us)
   touched_same [] [] are = refl
   touched_same (u ∷ us) (p ∷ ps) are =
       ap (λ (xs : List ℕ). xs ++ pieces_touched ps) are.0.touched
@@ -39,7 +39,7 @@ module _ (k : Known) where
   first_same [] (p ∷ ps) are = absurd are
   first_same (u ∷ us) [] are = absurd are
 
-  behind_same : (us : List ChainUnit) (ps : List Piece) → ArePieces k us ps → pieces_behind ps ≡ units_behind us
+  pub behind_same : (us : List ChainUnit) (ps : List Piece) → ArePieces k us ps → pieces_behind ps ≡ units_behind us
   behind_same [] [] are = refl
   behind_same (u ∷ []) (p ∷ []) are = are.0.behind
   behind_same (u ∷ (v ∷ us)) (p ∷ (q ∷ ps)) are = behind_same (v ∷ us) (q ∷ ps) are.1
@@ -48,14 +48,14 @@ module _ (k : Known) where
   behind_same (u ∷ []) (p ∷ (q ∷ ps)) are = absurd are.1
   behind_same (u ∷ (v ∷ us)) (p ∷ []) are = absurd are.1
 
-  take_pieces : (n : ℕ) (us : List ChainUnit) (ps : List Piece) → ArePieces k us ps → ArePieces k (take n us) (take n ps)
+  pub take_pieces : (n : ℕ) (us : List ChainUnit) (ps : List Piece) → ArePieces k us ps → ArePieces k (take n us) (take n ps)
   take_pieces zero us ps are = tt
   take_pieces (suc n) [] [] are = tt
   take_pieces (suc n) (u ∷ us) (p ∷ ps) are = (are.0, take_pieces n us ps are.1)
   take_pieces (suc n) [] (p ∷ ps) are = absurd are
   take_pieces (suc n) (u ∷ us) [] are = absurd are
 
-  drop_pieces : (n : ℕ) (us : List ChainUnit) (ps : List Piece) → ArePieces k us ps → ArePieces k (drop n us) (drop n ps)
+  pub drop_pieces : (n : ℕ) (us : List ChainUnit) (ps : List Piece) → ArePieces k us ps → ArePieces k (drop n us) (drop n ps)
   drop_pieces zero us ps are = are
   drop_pieces (suc n) [] [] are = tt
   drop_pieces (suc n) (u ∷ us) (p ∷ ps) are = drop_pieces n us ps are.1

@@ -12,5 +12,7 @@ pub mod Pieces
 pub mod Sums
 pub mod Placements
 pub mod Parts
+-- what is told of a plan beside it
+pub mod Explained
 -- which bodies have a plan
 pub mod Fits

@@ -10,6 +10,7 @@ use Rattle.flow_graph.specs.Nodes.{call_node, first_of, in_loop, laid_items, lea
 use Rattle.chain_units.specs.declared.cutting.Turning as code
 use Rattle.chain_units.specs.Known.{Known, or_nothing}
 use Rattle.chain_units.specs.Planned.{IsGreatest}
+use Rattle.chain_units.specs.Pieces.{IsTurnOf}
 use Rattle.chain_units.specs.Marks.{Alone, Closes, Flat, Joins, Mark, are_flat, ends, first_is_counted, flat_or, is_conditional, loop_weighed, marks_of, one_marks, placed_items, some_continues, turn_of}
 
 -- two items that are one unit: a loop of known count with the Copy before it, where they are flat together
@@ -66,9 +67,9 @@ continues_in _ = false
 -- the turns of a conditional loop, by its parts
 pub record IsConditional (k : Known) (pre : List Item) (test : Op) (post step : List Item) (behind : ℕ) (t : code.Turning) : Type 0 where
   pub yes : is_conditional k (turn_of pre test post step) (first_of (laid_items pre) test.number) behind ≡ true
-  pub first : t.first ≡ first_of (laid_items pre) test.number
+  pub turn : IsTurnOf k (turn_of pre test post step) (first_of (laid_items pre) test.number) behind t.turn
   pub greatest : IsGreatest (loop_weighed k (turn_of pre test post step) (first_of (laid_items pre) test.number) behind (or_nothing (k.weights (turn_of pre test post step)))) 1024
-      k.board.budget t.turns t.homes.items t.cost
+      k.board.budget t.greatest.turns t.greatest.homes.items t.greatest.cost
 
 -- the item is a loop of these parts, whatever its count
 pub record IsLoopOf (x : Item) (pre : List Item) (test : Op) (post step : List Item) (back : Op) : Type 0 where

@@ -1,12 +1,13 @@
 -- A chain as the code holds it: a piece for each unit.
 use Rattle.std.specs.Prelude.{◌≡◌, ◌≤◌, ◌+◌, ℕ, Some, List, [], ◌∷◌, ◌++◌, length, slice_get, take, drop, Vec}
 use Rattle.std.specs.declared.alloc.Global.{Global}
+use Rattle.flow_graph.specs.declared.graph.Item.{Item}
 use Rattle.loop_checkpoints.specs.declared.LoopWeight.{LoopWeight}
 use Rattle.loop_checkpoints.specs.Loops as loops
 use Rattle.chain_plans.specs.Plans as plans
 use Rattle.chain_units.specs.declared.pieces.Piece.{Piece}
 use Rattle.chain_units.specs.declared.weighing.Behind.{Behind}
-use Rattle.chain_units.specs.declared.weighing.Behind.TheVariants.{Before}
+use Rattle.chain_units.specs.declared.weighing.Behind.TheVariants.{Before, BeforeEither}
 use Rattle.chain_units.specs.Known.{Known, Weighs, both, nothing, or_nothing, told_weights, weight_in_fram}
 use Rattle.chain_units.specs.Costs.{Weighed, touched_in_all, turns_cost, weighed, words_taken}
 use Rattle.chain_units.specs.Wanted.{IsWeightOf, wanted}
@@ -22,6 +23,9 @@ pieces_sum w (p ∷ ps) = pieces_sum (both w (told_weights p.weights)) ps
 abbrev pub pieces_touched : List Piece → List ℕ
 pieces_touched [] = []
 pieces_touched (p ∷ ps) = p.touched.items ++ pieces_touched ps
+
+abbrev pub first_in : Piece → ℕ
+first_in p = p.first
 
 abbrev pub pieces_first : List Piece → ℕ
 pieces_first [] = 0
@@ -64,6 +68,13 @@ pub record IsPieceOf (k : Known) (u : ChainUnit) (p : Piece) : Type 0 where
   pub behind : p.behind ≡ unit_behind u
   pub touched : p.touched.items ≡ touched_in_all k (unit_items u)
   pub weights : told_weights p.weights ≡ or_nothing (k.weights (unit_items u))
+
+-- the piece of a turn of a loop, by the items of the turn, the operation that it begins with, and the one behind the loop
+pub record IsTurnOf (k : Known) (items : List Item) (top next : ℕ) (p : Piece) : Type 0 where
+  pub first : p.first ≡ top
+  pub behind : p.behind ≡ BeforeEither top next
+  pub touched : p.touched.items ≡ touched_in_all k items
+  pub weights : told_weights p.weights ≡ or_nothing (k.weights items)
 
 abbrev pub ArePieces : Known → List ChainUnit → List Piece → Type 0
 ArePieces k [] [] = Unit {0}

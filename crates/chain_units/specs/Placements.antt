@@ -3,22 +3,29 @@ use Rattle.std.specs.Prelude.{◌≡◌, ◌==◌, ◌≤◌, ◌++◌, ℕ, Boo
 use Rattle.std.specs.declared.alloc.Global.{Global}
 use Rattle.chain_units.specs.declared.pieces.Piece.{Piece}
 use Rattle.std.specs.List.{AllByRecursion}
-use Rattle.flow_graph.specs.declared.graph.Item.{Item}
+use Rattle.flow_graph.specs.declared.graph.Item.{Item, out-Item}
+use Rattle.flow_graph.specs.declared.graph.Item.TheOpen.{Item-F}
 use Rattle.flow_graph.specs.Nodes.{first_of, laid_items}
 use Rattle.chain_units.specs.declared.cutting.Turning as code
 use Rattle.chain_units.specs.declared.cutting.Placer.{Placer}
 use Rattle.chain_units.specs.declared.cutting.Run.{Run}
 use Rattle.chain_units.specs.declared.cutting.Run.TheVariants as run
 use Rattle.chain_units.specs.Known.{Known}
-use Rattle.chain_units.specs.Marks.{Mark, ChainUnit}
+use Rattle.chain_units.specs.Marks.{Mark, ChainUnit, turn_of}
 use Rattle.chain_units.specs.Chains.{PlacedChain, Plain, Turning, cut}
-use Rattle.chain_units.specs.Pieces.{ArePieces, FitsAlone}
+use Rattle.chain_units.specs.Pieces.{ArePieces, FitsAlone, IsTurnOf}
 use Rattle.chain_units.specs.Planned.{IsGreatest, turning_weighed}
+
+-- the piece of a turn of a loop
+abbrev pub IsTurnBy : Known → Item-F Item → ℕ → Piece → Type 0
+IsTurnBy k (Item-F.Loop pre test post step back count) next p = IsTurnOf k (turn_of pre test post step) (first_of (laid_items pre) test.number) next p
+IsTurnBy k _ next p = ⊥
 
 -- a conditional loop with its turns
 pub record IsTurningOf (k : Known) (x : Item) (behind : ℕ) (t : code.Turning) : Type 0 where
-  pub first : t.first ≡ first_of (laid_items (x ∷ [])) behind
-  pub greatest : IsGreatest (turning_weighed k x behind) 1024 k.board.budget t.turns t.homes.items t.cost
+  pub first : t.turn.first ≡ first_of (laid_items (x ∷ [])) behind
+  pub turn : IsTurnBy k (out-Item x) behind t.turn
+  pub greatest : IsGreatest (turning_weighed k x behind) 1024 k.board.budget t.greatest.turns t.greatest.homes.items t.greatest.cost
 
 abbrev pub IsRun : Known → PlacedChain → Run → Type 0
 IsRun k (Plain us) (run.Plain ps) = ArePieces k us ps.items

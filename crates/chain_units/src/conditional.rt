@@ -1,6 +1,7 @@
 //! Conditional loops: those that checkpoint every so many turns.
 
 ghost use Rattle.std.specs.Prelude.{◌≡◌, IfOk, IfSome, MatchOption, true, false};
+ghost use Rattle.std.specs.Option.{option_map};
 ghost use Rattle.flow_graph.specs.declared.graph.Op.{Op};
 ghost use Rattle.flow_graph.specs.Nodes.{first_of, laid_items};
 ghost use Rattle.chain_units.specs.Known.{told_weights};
@@ -10,10 +11,11 @@ ghost use Rattle.chain_units.specs.Parts.{IsConditional};
 ghost use Rattle.chain_units.specs.Planned.{IsGreatest};
 ghost use Rattle.chain_units.specs.Sums.{Rises};
 
-use crate::cutting::Turning;
+use crate::cutting::{Greatest, Turning};
 use crate::knowledge::Knowledge;
-use crate::pieces::put_all;
+use crate::pieces::{Piece, put_all};
 use crate::turning::plan_turning;
+use crate::weighing::Behind;
 use base_io::Memory;
 use flow_graph::{Item, Op};
 use item_weights::Weights;
@@ -29,21 +31,25 @@ fn turning_at<K: Knowledge>(
     behind: u32,
     touched: &[u32],
     weights: &Weights,
-) -> Result<Option<Turning>, Memory>
+) -> Result<Option<Greatest>, Memory>
     requires { Rises weights.now.uses.items }
     ensures fits { IfOk result (λ found. MatchOption found (one_turn_fits (turning_of (K.known k.now) touched.now top behind (told_weights weights.now)) 1024 (K.known k.now).board.budget ≡ false) (λ t. one_turn_fits (turning_of (K.known k.now) touched.now top behind (told_weights weights.now)) 1024 (K.known k.now).board.budget ≡ true)) }
-    ensures first { IfOk result (λ found. IfSome found (λ t. t.first ≡ top)) }
     ensures greatest { IfOk result (λ found. IfSome found (λ t. IsGreatest (turning_of (K.known k.now) touched.now top behind (told_weights weights.now)) 1024 (K.known k.now).board.budget t.turns t.homes.items t.cost)) }
 {
     let plan = plan_turning(alloc, k, top, behind, touched, weights)?;
     match plan {
         LoopPlan::Split => Ok(None),
-        LoopPlan::Every { turns, homes, cost } => Ok(Some(Turning {
-            first: top,
-            turns,
-            homes,
-            cost,
-        })),
+        LoopPlan::Every { turns, homes, cost } => Ok(Some(Greatest { turns, homes, cost })),
+    }
+}
+
+/// The loop with its turn, where there are turns.
+fn with_turn(turn: Piece, found: Option<Greatest>) -> Option<Turning>
+    ensures { result ≡ option_map (λ g. record { turn = turn; greatest = g }) found }
+{
+    match found {
+        None => None,
+        Some(greatest) => Some(Turning { turn, greatest }),
     }
 }
 
@@ -84,8 +90,14 @@ pub fn conditional<K: Knowledge>(
         Some(weights) => {
             let touched = turn_touched(alloc, k, pre, post, step)?;
             let top = k.first_of(pre, test.number);
-            let turning = turning_at(alloc, k, top, behind, &touched, &weights)?;
-            Ok(turning)
+            let greatest = turning_at(alloc, k, top, behind, &touched, &weights)?;
+            let turn = Piece {
+                first: top,
+                behind: Behind::BeforeEither(top, behind),
+                touched,
+                weights,
+            };
+            Ok(with_turn(turn, greatest))
         }
     }
 }

@@ -8,14 +8,19 @@ use base_io::Memory;
 use std::alloc::Global;
 use std::mem::replace;
 
-/// A conditional loop: the operation that a turn begins with, its turns between two checkpoints, the objects kept in SRAM
-/// meanwhile, and what these turns cost.
+/// The most turns between two checkpoints of a loop, the objects kept in SRAM meanwhile, and what these turns cost.
 #[derive(Debug, Drop)]
-pub struct Turning {
-    pub first: u32,
+pub struct Greatest {
     pub turns: u32,
     pub homes: Vec<u32>,
     pub cost: u64,
+}
+
+/// A conditional loop: a turn of it, and how many go between two checkpoints.
+#[derive(Debug, Drop)]
+pub struct Turning {
+    pub turn: Piece,
+    pub greatest: Greatest,
 }
 
 /// A chain.

@@ -4,6 +4,7 @@
 
 mod conditional;
 mod cutting;
+mod explaining;
 mod flat;
 mod joining;
 mod knowledge;
@@ -14,11 +15,14 @@ mod pieces;
 mod placing;
 mod plan;
 mod sums;
+mod telling;
 mod turning;
 mod weighing;
 
 pub use chain_plans::Stretch;
+pub use explaining::Explained;
 pub use knowledge::Knowledge;
 pub use laws::one_turn_is_tested;
 pub use plan::{Chain, put_chains};
 pub use sums::add;
+pub use telling::{ExplainedChain, put_explained};

@@ -74,7 +74,7 @@ fn plan_alone(alloc: Global, number: u32, function: u32, turning: &Turning) -> R
     ensures plan { IfOk result (λ c. (k : Known) (x : Item) (behind : ℕ) → IsTurningOf k x behind turning.now → IsTurningPlan k x behind c) }
 {
     let mut homes = Vec::new(alloc);
-    put_all(&mut homes, &turning.homes)?;
+    put_all(&mut homes, &turning.greatest.homes)?;
     let mut stretches = Vec::new(alloc);
     put_stretch(
         &mut stretches,
@@ -82,15 +82,15 @@ fn plan_alone(alloc: Global, number: u32, function: u32, turning: &Turning) -> R
             first_item: 0,
             items: 1,
             homes,
-            cost: turning.cost,
+            cost: turning.greatest.cost,
         },
     )?;
     Ok(Chain {
         number,
         function,
-        first_op: turning.first,
+        first_op: turning.turn.first,
         items: 1,
-        turns: turning.turns,
+        turns: turning.greatest.turns,
         stretches,
     })
 }

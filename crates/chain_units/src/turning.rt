@@ -3,7 +3,7 @@
 ghost use Rattle.std.specs.Prelude.{◌≡◌, ◌<◌, ◌≤◌, ◌+◌, ◌*◌, ◌^◌, ◌↔◌, ℕ, IfOk};
 ghost use Rattle.loop_checkpoints.specs.Plans.{IsSplit, WhereEvery};
 ghost use Rattle.chain_units.specs.Known.{told_weights};
-ghost use Rattle.chain_units.specs.Marks.{turning_of};
+ghost use Rattle.chain_units.specs.Marks.{long_move, turning_of};
 ghost use Rattle.chain_units.specs.Planned.{IsGreatest, NoTurnFits};
 ghost use Rattle.chain_units.specs.Sums.{Rises};
 ghost use Rattle.chain_units.specs.Wanted.{IsWeightOf};
@@ -27,6 +27,20 @@ fn long_move(board: &Board) -> u64
     board.core.move_ + 2 * board.access.fetch
 }
 
+/// What a turn of a loop costs beside its moves and its accesses.
+pub fn turning_frame<K: Knowledge>(k: &K, first: u32, behind: Behind) -> Frame
+    ensures { result ≡ record { once = (K.known k.now).overhead + 2 * long_move (K.known k.now); each_turn = (((K.known k.now).board.core.alu + (K.known k.now).board.core.jump) + 2 * (K.known k.now).board.access.fetch) + long_move (K.known k.now); first = first; behind = behind } }
+{
+    let board = k.board();
+    let long = long_move(&board);
+    Frame {
+        once: k.overhead() + 2 * long,
+        each_turn: board.core.alu + board.core.jump + 2 * board.access.fetch + long,
+        first,
+        behind,
+    }
+}
+
 /// The weight of a loop whose turn begins with one operation, and behind which another is executed.
 fn weight_of<K: Knowledge>(
     alloc: Global,
@@ -38,14 +52,7 @@ fn weight_of<K: Knowledge>(
 ) -> Result<LoopWeight, Memory>
     ensures { IfOk result (λ w. IsWeightOf w (turning_of (K.known k.now) touched.now top behind (told_weights weights.now))) }
 {
-    let board = k.board();
-    let long = long_move(&board);
-    let frame = Frame {
-        once: k.overhead() + 2 * long,
-        each_turn: board.core.alu + board.core.jump + 2 * board.access.fetch + long,
-        first: top,
-        behind: Behind::BeforeEither(top, behind),
-    };
+    let frame = turning_frame(k, top, Behind::BeforeEither(top, behind));
     weigh(alloc, k, frame, touched, weights)
 }
 

@@ -115,7 +115,7 @@ fn save_cost(board: &Board, array: bool, words: u16) -> u64
 }
 
 /// Whether the value of an object is wanted behind a piece of code.
-fn is_wanted<K: Knowledge>(k: &K, behind: Behind, object: u32) -> bool
+pub fn is_wanted<K: Knowledge>(k: &K, behind: Behind, object: u32) -> bool
     ensures { result ≡ wanted (K.known k.now) behind object }
 {
     match behind {

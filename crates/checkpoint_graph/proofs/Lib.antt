@@ -12,5 +12,7 @@ pub mod Listing
 pub mod Fitting
 -- the chains of a function, and of those behind it
 pub mod Following
+-- those that are explained
+pub mod ExplainedFunctions
 -- what the code holds is what is known
 pub mod KnownSame

@@ -14,8 +14,10 @@ use Rattle.call_summary.specs.declared.telling.Summary.{Summary}
 use Rattle.call_summary.specs.Costs.{ArePaid}
 use Rattle.call_summary.specs.Summaries.{TellTouched, costs_in}
 use Rattle.chain_units.specs.declared.plan.Chain.{Chain}
+use Rattle.chain_units.specs.declared.telling.ExplainedChain.{ExplainedChain}
 use Rattle.chain_units.specs.Chains.{chains}
 use Rattle.chain_units.specs.Planned.{ArePlans}
+use Rattle.chain_units.specs.Explained.{AreExplained}
 use Rattle.checkpoint_graph.specs.Knowing.{known}
 use Rattle.checkpoint_graph.specs.declared.placing.PlanFault.{PlanFault}
 use Rattle.checkpoint_graph.specs.declared.placing.PlanFault.TheVariants.{BudgetTooSmall, Memory}
@@ -50,3 +52,7 @@ IsFaultOf b ops Memory = Unit {0}
 -- the chains in the order of their numbers, from 1, each with its cheapest plan
 abbrev pub ArePlansOf : Graph → Liveness → List Summary → Board → List Chain → Type 0
 ArePlansOf g live summaries b placed = ArePlans (known g live summaries b) 1 (chains (known g live summaries b)) placed
+
+-- the chains, each explained by its plan, as far as there are plans
+abbrev pub AreExplainedOf : Graph → Liveness → List Summary → Board → List Chain → List ExplainedChain → Type 0
+AreExplainedOf g live summaries b placed explained = AreExplained (known g live summaries b) (chains (known g live summaries b)) placed explained

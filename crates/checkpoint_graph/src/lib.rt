@@ -3,11 +3,13 @@
 
 mod arrays;
 mod budget;
+mod explaining;
 mod known;
 mod lists;
 mod placing;
 mod touched;
 mod turn;
 
-pub use chain_units::{Chain, Stretch};
+pub use chain_units::{Chain, Explained, ExplainedChain, Stretch};
+pub use explaining::explain;
 pub use placing::{Placing, PlanFault, plan};

@@ -63,7 +63,7 @@ fn cost_in(summary: &Summary) -> Option<u64>
 }
 
 /// What the flat functions cost.
-fn costs_in(alloc: Global, summaries: &[Summary]) -> Result<Vec<Option<u64>>, Memory>
+pub fn costs_in(alloc: Global, summaries: &[Summary]) -> Result<Vec<Option<u64>>, Memory>
     ensures { IfOk result (λ made. made.items ≡ costs_in summaries.now) }
 {
     let mut made = Vec::new(alloc);
@@ -75,7 +75,7 @@ fn costs_in(alloc: Global, summaries: &[Summary]) -> Result<Vec<Option<u64>>, Me
     Ok(made)
 }
 
-fn function_at(functions: &[Func], function: u32) -> Option<&Func>
+pub fn function_at(functions: &[Func], function: u32) -> Option<&Func>
     ensures { MatchOption result (slice_get functions.now function ≡ None) (λ func. slice_get functions.now function ≡ Some func.now) }
 {
     functions.get(function as usize)

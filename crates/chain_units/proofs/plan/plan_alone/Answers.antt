@@ -6,7 +6,7 @@ use Rattle.chain_units.proofs.plan.plan_alone.Goals as goal
 pub returns-clause-plan : goal.returns-clause-plan
 returns-clause-plan c k x behind is =
     let turning = c.args.turning.now in
-    let s : Stretch = record { first_item = 0; items = 1; homes = c.put_all.new.objects; cost = turning.cost } in
+    let s : Stretch = record { first_item = 0; items = 1; homes = c.put_all.new.objects; cost = turning.greatest.cost } in
     let same = c.in_ok-put_all.ensures ∙ (ap (λ (xs : List ℕ). xs ++ c.deref.result.now) c.new-homes.ensures.items ∙ c.deref.ensures.value) in
     record {
       first_op = is.first;
@@ -15,5 +15,5 @@ returns-clause-plan c k x behind is =
       one = c.in_ok-put_stretch.ensures ∙ ap (λ (ss : List Stretch). ss ++ s ∷ []) c.new-stretches.ensures.items;
       first_item = refl;
       stretch_items = refl;
-      greatest = subst (λ (homes : List ℕ). IsGreatest (turning_weighed k x behind) 1024 k.board.budget turning.turns homes turning.cost) (sym same) is.greatest;
+      greatest = subst (λ (homes : List ℕ). IsGreatest (turning_weighed k x behind) 1024 k.board.budget turning.greatest.turns homes turning.greatest.cost) (sym same) is.greatest;
     }
