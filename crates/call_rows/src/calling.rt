@@ -3,22 +3,45 @@ use crate::boxes::filled_box;
 use crate::row::Row;
 use base_io::{MemSink, MemStore, Store};
 use commands::schematic;
+use msp430_machine::Refill;
 use std::alloc::{AllocError, Global};
 use supply_trace::{Given, Supply};
 
 /// More boxes could hold too many rows.
 const MOST_BOXES: usize = 60_000;
 
-/// What a call came to.
+/// What a call came to, and what it left.
 #[derive(Drop)]
-pub struct Answer {
+pub struct Outcome {
     pub code: u8,
     /// What the boxes hold, a line for each.
     pub left: String,
+    pub store: MemStore,
+    pub sink: MemSink,
 }
 
-/// The store that a row asks for.
-pub fn store_of(alloc: Global, row: &Row) -> Result<MemStore, AllocError> {
+// What is told of a call beside the store and the output.
+#[derive(Drop)]
+struct Answer {
+    code: u8,
+    left: String,
+}
+
+/// Does the call of a row.
+pub fn outcome_of(alloc: Global, row: &Row) -> Result<Outcome, AllocError> {
+    let mut store = store_of(alloc, row)?;
+    let mut sink = sink_of(alloc, row)?;
+    let Answer { code, left } = called(alloc, row, &mut store, &mut sink)?;
+    Ok(Outcome {
+        code,
+        left,
+        store,
+        sink,
+    })
+}
+
+// The store that a row asks for.
+fn store_of(alloc: Global, row: &Row) -> Result<MemStore, AllocError> {
     let mut gets = Vec::new(alloc);
     gets.extend_from_slice(&row.gets)?;
     let puts = puts_of(alloc, row)?;
@@ -58,8 +81,8 @@ fn write(store: &mut MemStore, name: &str, bytes: &[u8]) -> Result<(), AllocErro
     Ok(())
 }
 
-/// An empty output as a row asks for it.
-pub fn sink_of(alloc: Global, row: &Row) -> Result<MemSink, AllocError> {
+// An empty output as a row asks for it.
+fn sink_of(alloc: Global, row: &Row) -> Result<MemSink, AllocError> {
     let mut puts = Vec::new(alloc);
     puts.extend_from_slice(&row.sink_puts)?;
     match MemSink::new(alloc, row.sink_room, puts) {
@@ -68,8 +91,8 @@ pub fn sink_of(alloc: Global, row: &Row) -> Result<MemSink, AllocError> {
     }
 }
 
-/// Does the job of the row's words, with a box for each word.
-pub fn called(
+// Does the job of the row's words, with a box for each word.
+fn called(
     alloc: Global,
     row: &Row,
     store: &mut MemStore,
@@ -114,11 +137,18 @@ fn left_in(alloc: Global, supplies: &mut [Box<dyn Supply>]) -> Result<String, Al
 fn add_left(text: &mut String, supply: &mut Box<dyn Supply>) -> Result<(), AllocError> {
     for _ in 0..100_000u32 {
         match supply.refill() {
-            Given::Row(row) if row.keep => write!(text, " {} keep", row.amount)?,
-            Given::Row(row) => write!(text, " {} lose {:04X}", row.amount, row.junk)?,
+            Given::Row(row) => add_row(text, row)?,
             Given::Ended => return Ok(()),
             Given::Failed => text.push_str(" failed")?,
         }
     }
     Ok(())
+}
+
+fn add_row(text: &mut String, row: Refill) -> Result<(), AllocError> {
+    if row.keep {
+        write!(text, " {} keep", row.amount)
+    } else {
+        write!(text, " {} lose {:04X}", row.amount, row.junk)
+    }
 }

@@ -33,15 +33,20 @@ mod table;
 mod texts;
 
 use crate::table::Table;
-use base_io::StdSink;
+use base_io::{Sink, StdSink};
 use std::io::{self, BufRead, BufReader};
 
 fn main(rt: HostRuntime) -> io::Result<()> {
     let alloc = rt.alloc();
+    let lines = BufReader::new(alloc, rt.reader())?.lines(alloc);
     let mut out = StdSink::new(rt);
     let mut table = Table::new(alloc);
-    for line in BufReader::new(alloc, rt.reader())?.lines(alloc) {
-        table.take(line?, &mut out)?;
+    for line in lines {
+        take(&mut table, line, &mut out)?;
     }
     table.finish(&mut out)
+}
+
+fn take<K: Sink>(table: &mut Table, line: io::Result<String>, out: &mut K) -> io::Result<()> {
+    table.take(line?, out)
 }

@@ -1,5 +1,5 @@
 //! What is printed of a row.
-use crate::calling::{called, sink_of, store_of};
+use crate::calling::{Outcome, outcome_of};
 use crate::row::Row;
 use crate::texts::bytes_of;
 use base_io::MemStore;
@@ -7,21 +7,38 @@ use std::alloc::{AllocError, Global};
 
 /// Does the call of a row, and tells what came of it.
 pub fn report(alloc: Global, head: &str, row: &Row) -> Result<Vec<u8>, AllocError> {
-    let mut store = store_of(alloc, row)?;
-    let mut sink = sink_of(alloc, row)?;
-    let answer = called(alloc, row, &mut store, &mut sink)?;
+    let outcome = outcome_of(alloc, row)?;
     let mut text = Vec::new(alloc);
-    let code = answer.code;
-    add_line(&mut text, format!(in alloc; "{head} => {code}")?.as_str())?;
-    for line in &row.unread {
-        add_line(&mut text, format!(in alloc; "unread: {line}")?.as_str())?;
-    }
-    add_bytes(&mut text, sink.bytes())?;
-    add_files(alloc, &mut text, row, &store)?;
-    if row.shows_left {
-        add_bytes(&mut text, answer.left.as_bytes())?;
-    }
+    add_outcome(alloc, &mut text, head, row, &outcome)?;
     Ok(text)
+}
+
+fn add_outcome(
+    alloc: Global,
+    text: &mut Vec<u8>,
+    head: &str,
+    row: &Row,
+    outcome: &Outcome,
+) -> Result<(), AllocError> {
+    add_head(alloc, text, head, outcome.code)?;
+    for line in &row.unread {
+        add_unread(alloc, text, line.as_str())?;
+    }
+    add_bytes(text, outcome.sink.bytes())?;
+    add_changed_files(alloc, text, row, &outcome.store)?;
+    add_new_files(alloc, text, row, &outcome.store)?;
+    if row.shows_left {
+        add_bytes(text, outcome.left.as_bytes())?;
+    }
+    Ok(())
+}
+
+fn add_head(alloc: Global, text: &mut Vec<u8>, head: &str, code: u8) -> Result<(), AllocError> {
+    add_line(text, format!(in alloc; "{head} => {code}")?.as_str())
+}
+
+fn add_unread(alloc: Global, text: &mut Vec<u8>, line: &str) -> Result<(), AllocError> {
+    add_line(text, format!(in alloc; "unread: {line}")?.as_str())
 }
 
 fn add_line(text: &mut Vec<u8>, line: &str) -> Result<(), AllocError> {
@@ -39,7 +56,7 @@ fn add_bytes(text: &mut Vec<u8>, bytes: &[u8]) -> Result<(), AllocError> {
 }
 
 // Adds the files that changed.
-fn add_files(
+fn add_changed_files(
     alloc: Global,
     text: &mut Vec<u8>,
     row: &Row,
@@ -51,6 +68,16 @@ fn add_files(
             add_file(alloc, text, before.name.as_str(), now)?;
         }
     }
+    Ok(())
+}
+
+// Adds the files that weren't there.
+fn add_new_files(
+    alloc: Global,
+    text: &mut Vec<u8>,
+    row: &Row,
+    store: &MemStore,
+) -> Result<(), AllocError> {
     for room in &row.rooms {
         let now = store.file(room.name.as_str());
         if now.is_some() && bytes_of(&row.texts, room.name.as_str()).is_none() {

@@ -50,28 +50,34 @@ impl Row {
     /// Adds what a line says.
     pub fn apply(&mut self, line: &str) -> Result<(), AllocError> {
         let (name, rest) = line.split_once(' ').unwrap_or((line, ""));
-        let said = match name {
-            "words" => self.set_words(line.len() > name.len(), rest)?,
-            "more" => self.add_words(rest)?,
-            "file" => {
-                begin(self.alloc, &mut self.texts, rest)?;
-                true
-            }
-            ">" => {
-                add(&mut self.texts, rest.as_bytes(), 1)?;
-                true
-            }
-            "|" => {
-                add(&mut self.texts, rest.as_bytes(), 1)?;
-                add(&mut self.texts, b"\n", 1)?;
-                true
-            }
-            _ => self.apply_rarer(name, rest)?,
-        };
-        if !said {
-            self.unread.push(String::from_str(self.alloc, line)?)?;
+        if self.says(name, rest, line.len() > name.len())? {
+            return Ok(());
         }
+        self.unread.push(String::from_str(self.alloc, line)?)?;
         Ok(())
+    }
+
+    // Adds what a line of this name says, if it says something. A blank may stand behind the name.
+    fn says(&mut self, name: &str, rest: &str, blank: bool) -> Result<bool, AllocError> {
+        match name {
+            "words" => self.set_words(blank, rest),
+            "more" => self.add_words(rest),
+            "file" => self.begin_file(rest),
+            ">" => self.add_text(rest, b""),
+            "|" => self.add_text(rest, b"\n"),
+            _ => self.apply_rarer(name, rest),
+        }
+    }
+
+    fn begin_file(&mut self, name: &str) -> Result<bool, AllocError> {
+        begin(self.alloc, &mut self.texts, name)?;
+        Ok(true)
+    }
+
+    fn add_text(&mut self, text: &str, end: &[u8]) -> Result<bool, AllocError> {
+        add(&mut self.texts, text.as_bytes(), 1)?;
+        add(&mut self.texts, end, 1)?;
+        Ok(true)
     }
 
     fn apply_rarer(&mut self, name: &str, rest: &str) -> Result<bool, AllocError> {

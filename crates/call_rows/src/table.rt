@@ -28,26 +28,28 @@ impl Table {
 
     /// Takes the next line. One that begins something new ends the row before it, which is done.
     pub fn take<K: Sink>(&mut self, line: String, out: &mut K) -> io::Result<()> {
-        let text = line.as_str();
-        if text.is_empty() || text.starts_with('#') {
-            return Ok(());
+        match kind_of(line.as_str()) {
+            Kind::Nothing => Ok(()),
+            Kind::Shared => self.begin_shared(out),
+            Kind::Head => self.begin_row(line, out),
+            Kind::Own => self.keep(line),
         }
-        if text == "shared" {
-            self.finish(out)?;
-            self.shared.clear();
-            return Ok(());
-        }
-        if text.starts_with("row ") || text.starts_with("case ") {
-            self.finish(out)?;
-            self.head = Some(line);
-            return Ok(());
-        }
-        self.keep(line)?;
+    }
+
+    fn begin_shared<K: Sink>(&mut self, out: &mut K) -> io::Result<()> {
+        self.finish(out)?;
+        self.shared.clear();
         Ok(())
     }
 
+    fn begin_row<K: Sink>(&mut self, head: String, out: &mut K) -> io::Result<()> {
+        let done = self.finish(out);
+        self.head = Some(head);
+        done
+    }
+
     // Keeps a line of a row or of all of them.
-    fn keep(&mut self, line: String) -> Result<(), AllocError> {
+    fn keep(&mut self, line: String) -> io::Result<()> {
         if self.head.is_some() {
             self.own.push(line)?;
         } else {
@@ -58,43 +60,70 @@ impl Table {
 
     /// Does the row that was read, if there is one, and prints what comes of it.
     pub fn finish<K: Sink>(&mut self, out: &mut K) -> io::Result<()> {
-        let Some(head) = self.head.take() else {
-            return Ok(());
-        };
-        let row = row_of(self.alloc, &head, &self.shared, &self.own)?;
+        match self.head.take() {
+            Some(head) => self.do_row(head.as_str(), out),
+            None => Ok(()),
+        }
+    }
+
+    fn do_row<K: Sink>(&mut self, head: &str, out: &mut K) -> io::Result<()> {
+        let text = self.told(head)?;
         self.own.clear();
-        let text = report(self.alloc, &head, &row)?;
         match out.put(&text) {
             Ok(()) => Ok(()),
             Err(_) => Err(io::ErrorKind::Other.into()),
         }
     }
+
+    // What is printed of the row.
+    fn told(&self, head: &str) -> Result<Vec<u8>, AllocError> {
+        let mut row = Row::new(self.alloc);
+        apply_lines(self.alloc, &mut row, head, &self.shared, &self.own)?;
+        report(self.alloc, head, &row)
+    }
 }
 
-// The row of these lines.
-fn row_of(
+// What a line is.
+enum Kind {
+    Nothing,
+    Shared,
+    Head,
+    Own,
+}
+
+fn kind_of(line: &str) -> Kind {
+    if line.is_empty() || line.starts_with('#') {
+        Kind::Nothing
+    } else if line == "shared" {
+        Kind::Shared
+    } else if line.starts_with("row ") || line.starts_with("case ") {
+        Kind::Head
+    } else {
+        Kind::Own
+    }
+}
+
+// Adds what the lines say to a row.
+fn apply_lines(
     alloc: Global,
-    head: &String,
+    row: &mut Row,
+    head: &str,
     shared: &[String],
     own: &[String],
-) -> Result<Row, AllocError> {
-    let mut row = Row::new(alloc);
+) -> Result<(), AllocError> {
     for line in shared {
-        apply(alloc, &mut row, head, line)?;
+        apply(alloc, row, head, line)?;
     }
     for line in own {
-        apply(alloc, &mut row, head, line)?;
+        apply(alloc, row, head, line)?;
     }
-    Ok(row)
+    Ok(())
 }
 
 // Adds what a line says to a row, with the text of a case in its place.
-fn apply(alloc: Global, row: &mut Row, head: &String, line: &String) -> Result<(), AllocError> {
-    match head.as_str().strip_prefix("case ") {
-        Some(text) => {
-            let line = filled(alloc, line.as_str(), text)?;
-            row.apply(line.as_str())
-        }
+fn apply(alloc: Global, row: &mut Row, head: &str, line: &String) -> Result<(), AllocError> {
+    match head.strip_prefix("case ") {
+        Some(text) => row.apply(filled(alloc, line.as_str(), text)?.as_str()),
         None => row.apply(line.as_str()),
     }
 }

@@ -60,12 +60,22 @@ fn numbered(alloc: Global, piece: &[u8], number: u32) -> Result<Vec<u8>, AllocEr
     let before = number.saturating_sub(1);
     let before = format!(in alloc; "{before}")?;
     let mut bytes = Vec::new(alloc);
+    add_numbered(&mut bytes, piece, this.as_bytes(), before.as_bytes())?;
+    Ok(bytes)
+}
+
+fn add_numbered(
+    bytes: &mut Vec<u8>,
+    piece: &[u8],
+    this: &[u8],
+    before: &[u8],
+) -> Result<(), AllocError> {
     for byte in piece {
         match *byte {
-            b'#' => bytes.extend_from_slice(this.as_bytes())?,
-            b'@' => bytes.extend_from_slice(before.as_bytes())?,
+            b'#' => bytes.extend_from_slice(this)?,
+            b'@' => bytes.extend_from_slice(before)?,
             other => bytes.push(other)?,
         }
     }
-    Ok(bytes)
+    Ok(())
 }

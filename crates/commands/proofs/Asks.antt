@@ -1,12 +1,13 @@
 -- Words ask for one job.
 use Rattle.std.proofs.Common.{◌≡◌, ◌⊎◌, ℕ, List, Option, Some, None, ap, ap₂, sym, ◌∙◌, inl, inr, true≢false}
-use Rattle.job_parts.specs.Asked.{Request, asked, build, check, run, say}
+use Rattle.job_parts.specs.Asked.{Request, asked, build, check, plan, run, say}
 use Rattle.job_files.specs.Text.{Text}
 use Rattle.build_job.specs.Build.{Build}
 use Rattle.check_job.specs.Check.{Check}
+use Rattle.plan_job.specs.Plan.{Plan}
 use Rattle.run_job.specs.Run.{Run}
 use Rattle.say_job.specs.Say.{Say}
-use Rattle.commands.specs.Words.{AskBuild, AskCheck, AskRun, AskSay, AskUnbuilt, is_built}
+use Rattle.commands.specs.Words.{AskBuild, AskCheck, AskPlan, AskRun, AskSay, AskUnbuilt, is_built}
 
 pub some_none : (o : Option Request) (r : Request) → o ≡ Some r → o ≡ None → ⊥
 some_none o r e n = cc
@@ -165,3 +166,58 @@ one_check words a b e f =
     ap₂ check_from
     (same_check_files a.image a.certificate a.board b.image b.certificate b.board (ap (λ (r : Request). r.task) same))
     (ap (λ (r : Request). r.budget) same)
+
+-- ---- Plans
+
+abbrev plan_request : Plan → ℕ → Request
+plan_request job steps = record { task = plan job.program job.board; budget = job.budget; steps = steps }
+
+-- words that ask for a plan are refused for nothing
+pub plan_asks_once : (words : List Text) (job : Plan) → AskPlan words job → (asked words ≡ None) ⊎ AskUnbuilt words → ⊥
+plan_asks_once words job e (inl none) = some_none (asked words) (plan_request job e.steps) e.asks none
+plan_asks_once words job e (inr u) =
+    true≢false (ap (λ (r : Request). is_built r.task) (same_request (plan_request job e.steps) u.request (sym e.asks ∙ u.asks)) ∙ u.unbuilt)
+
+-- and ask for no build, no run, no say and no check
+pub build_or_plan : (words : List Text) (job : Build) (other : Plan) → AskBuild words job → AskPlan words other → ⊥
+build_or_plan words job other e f =
+    apart (ap (λ (r : Request). r.task) (same_request (build_request job e.steps) (plan_request other f.steps) (sym e.asks ∙ f.asks)))
+  where
+    apart : build job.program job.board job.image job.certificate ≡ plan other.program other.board → ⊥
+    apart same = cc
+
+pub run_or_plan : (words : List Text) (job : Run) (other : Plan) → AskRun words job → AskPlan words other → ⊥
+run_or_plan words job other e f =
+    apart (ap (λ (r : Request). r.task) (same_request (run_request job) (plan_request other f.steps) (sym e.asks ∙ f.asks)))
+  where
+    apart : run job.image job.board job.input job.supplies ≡ plan other.program other.board → ⊥
+    apart same = cc
+
+pub say_or_plan : (words : List Text) (job : Say) (other : Plan) → AskSay words job → AskPlan words other → ⊥
+say_or_plan words job other e f =
+    apart (ap (λ (r : Request). r.task) (same_request (say_request job e.budget) (plan_request other f.steps) (sym e.asks ∙ f.asks)))
+  where
+    apart : say job.program job.input ≡ plan other.program other.board → ⊥
+    apart same = cc
+
+pub check_or_plan : (words : List Text) (job : Check) (other : Plan) → AskCheck words job → AskPlan words other → ⊥
+check_or_plan words job other e f =
+    apart (ap (λ (r : Request). r.task) (same_request (check_request job e.steps) (plan_request other f.steps) (sym e.asks ∙ f.asks)))
+  where
+    apart : check job.image job.certificate job.board ≡ plan other.program other.board → ⊥
+    apart same = cc
+
+abbrev PlanFiles : Type 0
+PlanFiles = Text × Text
+
+abbrev plan_from : PlanFiles → Option ℕ → Plan
+plan_from v budget = record { program = v.0; board = v.1; budget = budget }
+
+same_plan_files : (p b q d : Text) → plan p b ≡ plan q d → (let x : PlanFiles = (p, b) in x ≡ (q, d))
+same_plan_files p b q d same = cc
+
+-- words ask for one plan
+pub one_plan : (words : List Text) (a b : Plan) → AskPlan words a → AskPlan words b → a ≡ b
+one_plan words a b e f =
+    let same = same_request (plan_request a e.steps) (plan_request b f.steps) (sym e.asks ∙ f.asks) in
+    ap₂ plan_from (same_plan_files a.program a.board b.program b.board (ap (λ (r : Request). r.task) same)) (ap (λ (r : Request). r.budget) same)

@@ -13,6 +13,8 @@ use Rattle.build_job.specs.Build.{Build}
 use Rattle.build_job.specs.Ends.{BuildEnds}
 use Rattle.check_job.specs.Check.{Check}
 use Rattle.check_job.specs.Ends.{CheckEnds}
+use Rattle.plan_job.specs.Ends.{PlanEnds}
+use Rattle.plan_job.specs.Plan.{Plan}
 use Rattle.run_job.specs.Boxes.{Box, FitBoxes}
 use Rattle.run_job.specs.Ends.{IsShown, RunEnds, RunRefuses}
 use Rattle.run_job.specs.Opening.{GivesUp, MayRun}
@@ -102,7 +104,7 @@ usage_begins words old before e (Err m) h = gives_up words old before
 -- a refusal of a job that isn't built
 at_once : (t : Task) (budget : Option ℕ) (steps : ℕ) (old : Seen) (before : List Box) (a : Answer) (line : Text) → is_built t ≡ false
     → IsRefusedAtOnce not_built old old a line → TaskEnds t budget steps old old before before a line
-at_once (plan program board) budget steps old before a line e h = (h, refl)
+at_once (plan program board) budget steps old before a line e h = absurd (true≢false e)
 at_once (gen seed size board) budget steps old before a line e h = (h, refl)
 at_once (build program board image certificate) budget steps old before a line e h = absurd (true≢false e)
 at_once (check image certificate board) budget steps old before a line e h = absurd (true≢false e)
@@ -151,6 +153,23 @@ module _ (job : Check) (steps : ℕ) (old new : Seen) (before : List Box) where
 
   pub check_comes : (t : Task) → t ≡ check job.image job.certificate job.board → (r : Result Beginning Memory) → CheckBegins r → TaskBegins t job.budget steps old new before before r
   check_comes t is r h = subst (λ (x : Task). TaskBegins x job.budget steps old new before before r) (sym is) (check_task r h)
+
+-- a plan
+module _ (job : Plan) (steps : ℕ) (old new : Seen) (before : List Box) where
+  abbrev pub PlanBegins : Result Beginning Memory → Type 0
+  PlanBegins r =
+      MatchResult r
+      (λ b. MatchBeginning b (λ ending. PlanEnds job old new (answer_of ending.status) (string_bytes ending.line)) (λ opened. ⊥) (λ opened. ⊥))
+      (λ m. IsUnwritten old new)
+
+  plan_task : (r : Result Beginning Memory) → PlanBegins r → TaskBegins (plan job.program job.board) job.budget steps old new before before r
+  plan_task (Ok (Ends ending)) h = (h, refl)
+  plan_task (Ok (Runs opened)) h = absurd h
+  plan_task (Ok (Says opened)) h = absurd h
+  plan_task (Err m) h = (h, refl)
+
+  pub plan_comes : (t : Task) → t ≡ plan job.program job.board → (r : Result Beginning Memory) → PlanBegins r → TaskBegins t job.budget steps old new before before r
+  plan_comes t is r h = subst (λ (x : Task). TaskBegins x job.budget steps old new before before r) (sym is) (plan_task r h)
 
 -- a run
 module _ (job : Run) (old new : Seen) (before now : List Box) where

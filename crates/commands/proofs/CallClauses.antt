@@ -1,4 +1,4 @@
--- Each clause of the public call, from what a job comes to that puts one line.
+-- Each clause of the public call, from what a job comes to that puts its text at once.
 use Rattle.std.proofs.Common.{◌≡◌, ◌<◌, ◌⊎◌, List, sym, subst, ◌∙◌, refl, inl, inr, ⊎_elim, IfSome}
 use Rattle.base_io.specs.Counts.{Rose}
 use Rattle.base_io.specs.Files.{Files}
@@ -8,7 +8,7 @@ use Rattle.job_files.specs.Stores.{Seen}
 use Rattle.job_files.specs.Text.{Text, output}
 use Rattle.job_files.proofs.Telling.{fill, grew_not, map_told}
 use Rattle.run_job.specs.Boxes.{Box}
-use Rattle.commands.specs.Call.{IsToldInOneLine}
+use Rattle.commands.specs.Call.{IsToldAtOnce}
 use Rattle.commands.specs.Causes.{HasCause}
 use Rattle.commands.specs.Faults.{IsComplete, IsReadFaultOrFree, IsWriteFault, NoBoxRose, ReadFaultIs, SupplyFaultIs, TooLargeIs, WordsAre, WriteFaultIs}
 use Rattle.commands.specs.Left.{LeavesTold}
@@ -16,7 +16,7 @@ use Rattle.commands.proofs.Clauses.{came_cause, came_failed, came_large, came_le
 use Rattle.commands.proofs.OneCause.{decide_one}
 use Rattle.commands.proofs.Reading.{IsLine}
 
-module _ (words : List Text) (old new : Seen) (before left : List Box) (sunk now : Sunk) (a : Answer) (r : IsToldInOneLine words old new before left sunk now a) where
+module _ (words : List Text) (old new : Seen) (before left : List Box) (sunk now : Sunk) (a : Answer) (r : IsToldAtOnce words old new before left sunk now a) where
   -- the line was put, the output failed, or there was no memory for its name
   by_puts : (P : Type 0) → (IsWholePut r.came r.line sunk now a → P) → (IsFailedPut r.line sunk now a → P) → (IsNotPut sunk now a → r.came ≡ no_memory → P) → P
   by_puts P f g h = ⊎_elim (λ puts. ⊎_elim f g puts) (λ n. h n.0 n.1) r.puts

@@ -14,6 +14,9 @@ use Rattle.build_job.specs.Ends.{BuildEnds, IsBuiltTold, LeavesStore}
 use Rattle.check_job.specs.Check.{Check, check_files}
 use Rattle.check_job.specs.Checking.{CheckCauses, RefusesCheck}
 use Rattle.check_job.specs.Ends.{CheckEnds, CountsCheck}
+use Rattle.plan_job.specs.Ends.{CountsPlan, PlanEnds}
+use Rattle.plan_job.specs.Plan.{Plan}
+use Rattle.plan_job.specs.Planning.{PlanCauses}
 use Rattle.run_job.specs.Boxes.{Box}
 use Rattle.run_job.specs.Ends.{RunEnds}
 use Rattle.run_job.specs.Run.{Run, run_files}
@@ -24,8 +27,9 @@ use Rattle.say_job.specs.Saying.{RefusesSay, SayCauses}
 use Rattle.commands.specs.Causes.{HasCause}
 use Rattle.commands.specs.Faults.{IsReadFaultOrFree, IsWriteFault, ReadFaultIs, SupplyFaultIs, TooLargeIs, WordsAre, WriteFaultIs}
 use Rattle.commands.specs.Left.{LeavesTold}
-use Rattle.commands.specs.Words.{AskBuild, AskCheck, AskRun, AskSay, AskUnbuilt}
+use Rattle.commands.specs.Words.{AskBuild, AskCheck, AskPlan, AskRun, AskSay, AskUnbuilt}
 use Rattle.commands.proofs.Asks.{asks_once, check_asks_once, run_asks_once, say_asks_once}
+use Rattle.commands.proofs.PlannedClauses.{plan_caused, plan_large, plan_leaves, plan_line, plan_read, plan_read_rose, plan_supply, plan_words, plan_write}
 use Rattle.commands.proofs.Reading.{AskReading, IsLine, reading_large, reading_leaves, reading_line, reading_read, reading_read_rose, reading_supply, reading_words, reading_write}
 use Rattle.commands.proofs.Told.{same_told}
 use Rattle.commands.specs.Call.{Comes, ComesTo, IsGivenUp, IsRefusedAtOnce, TaskEnds}
@@ -58,7 +62,7 @@ module _ (words : List Text) (files : Files) (boxes : List Box) where
   check_caused job asks not_built h = absurd h
   check_caused job asks no_memory h = tt
   check_caused job asks (write_fault name) h = absurd h
-  check_caused job asks a h = inr (inr (inr (job, asks, h)))
+  check_caused job asks a h = inr (inr (inr (inl (job, asks, h))))
 
 -- ---- How a job may have come to its answer
 
@@ -72,7 +76,8 @@ module _ (words : List Text) (old new : Seen) (before now : List Box) (came : An
     (built : (job : Build) → AskBuild words job → BuildEnds job old new came line → P)
     (ran : (job : Run) → AskRun words job → RunEnds job old new before now came line → P)
     (spoken : (job : Say) → AskSay words job → SayEnds job old new came line → P)
-    (checked : (job : Check) → AskCheck words job → CheckEnds job old new came line → P) where
+    (checked : (job : Check) → AskCheck words job → CheckEnds job old new came line → P)
+    (planned : (job : Plan) → AskPlan words job → PlanEnds job old new came line → P) where
   by_task : (t : Task) (budget : Option ℕ) (steps : ℕ) → asked words ≡ Some (record { task = t; budget = budget; steps = steps })
       → TaskEnds t budget steps old new before now came line → P
   by_task (build program board image certificate) budget steps e h =
@@ -82,8 +87,7 @@ module _ (words : List Text) (old new : Seen) (before now : List Box) (came : An
   by_task (check image certificate board) budget steps e h =
       checked (record { image = image; certificate = certificate; board = board; budget = budget }) (record { steps = steps; asks = e }) h.0
   by_task (say program input) budget steps e h = spoken (record { program = program; input = input; steps = steps }) (record { budget = budget; asks = e }) h.0
-  by_task (plan p b) budget steps e h =
-      refused not_built (unbuilt (record { request = record { task = plan p b; budget = budget; steps = steps }; asks = e; unbuilt = refl })) h.0
+  by_task (plan p b) budget steps e h = planned (record { program = p; board = b; budget = budget }) (record { steps = steps; asks = e }) h.0
   by_task (gen n m b) budget steps e h =
       refused not_built (unbuilt (record { request = record { task = gen n m b; budget = budget; steps = steps }; asks = e; unbuilt = refl })) h.0
 
@@ -109,6 +113,7 @@ module _ (words : List Text) (old new : Seen) (before now : List Box) (came : An
       (λ job e h. map_told old.files (λ f. RunCauses job f before came) (λ f. HasCause words f before came) (λ f. run_caused words f before job e came) h.refuses.cause)
       (λ job e h. map_told old.files (λ f. SayCauses job f came) (λ f. HasCause words f before came) (λ f. say_caused words f before job e came) h.cause)
       (λ job e h. map_told old.files (λ f. CheckCauses job f came) (λ f. HasCause words f before came) (λ f. check_caused words f before job e came) h.cause)
+      (λ job e h. map_told old.files (λ f. PlanCauses job f came) (λ f. HasCause words f before came) (λ f. plan_caused words f before job e came) h.cause)
       (λ h. fill old.files (λ f. HasCause words f before came) (λ f. subst (HasCause words f before) (sym h.answer) tt))
 
 -- ---- A build
@@ -195,7 +200,7 @@ module _ (words : List Text) (old new : Seen) (job : Build) (e : AskBuild words 
 
 module _ (words : List Text) (job : Check) (e : AskCheck words job) where
   check_asked : AskReading words (check_files job)
-  check_asked = record { reads = λ w h. inr (inr (inr (job, e, h))); once = check_asks_once words job e }
+  check_asked = record { reads = λ w h. inr (inr (inr (inl (job, e, h)))); once = check_asks_once words job e }
 
 -- what a check says of each count, of its words and of the files
 module _ (words : List Text) (before now : ℕ) (bad : Text) (job : Check) (e : AskCheck words job) where
@@ -224,7 +229,7 @@ module _ (words : List Text) (before now : ℕ) (bad : Text) (job : Check) (e : 
   check_supply boxes left a h = reading_supply words (check_files job) (check_asked words job e) (RefusesCheck job) before now bad boxes left a h
 
   check_leaves : (o n : Option Files) → n ≡ o → (a : Answer) → CountsCheck job before now bad a → LeavesTold words a o n
-  check_leaves o n same done h = same_told words done (λ x y k. inr (inr (inr (job, e)), k)) o n same
+  check_leaves o n same done h = same_told words done (λ x y k. inr (inr (inr (inl (job, e))), k)) o n same
   check_leaves o n same a h = reading_leaves words (check_files job) (check_asked words job e) (RefusesCheck job) before now bad o n same a h
 
   check_line : (a : Answer) → CountsCheck job before now bad a → IsLine a
@@ -291,6 +296,7 @@ module _ (words : List Text) (old new : Seen) (before now : List Box) (came : An
       (λ job e h. reading_words words (run_files job) (run_asked words job e) (RefusesRun job) old.reads new.reads new.bad came h.refuses.counts)
       (λ job e h. reading_words words (say_files job) (say_asked words job e) (RefusesSay job) old.reads new.reads new.bad came h.counts)
       (λ job e h. check_words words old.reads new.reads new.bad job e came h.counts)
+      (λ job e h. plan_words words old.reads new.reads new.bad job e came h.counts)
       (λ h. subst (WordsAre words) (sym h.answer) (λ n. inl refl))
       comes
 
@@ -302,6 +308,7 @@ module _ (words : List Text) (old new : Seen) (before now : List Box) (came : An
       (λ job e h. reading_read words (run_files job) (run_asked words job e) (RefusesRun job) old.reads new.reads new.bad came h.refuses.counts)
       (λ job e h. reading_read words (say_files job) (say_asked words job e) (RefusesSay job) old.reads new.reads new.bad came h.counts)
       (λ job e h. check_read words old.reads new.reads new.bad job e came h.counts)
+      (λ job e h. plan_read words old.reads new.reads new.bad job e came h.counts)
       (λ h. subst (ReadFaultIs words old.reads new.reads new.bad) (sym h.answer) tt)
       comes
 
@@ -313,6 +320,7 @@ module _ (words : List Text) (old new : Seen) (before now : List Box) (came : An
       (λ job e h. reading_read_rose words (run_files job) (run_asked words job e) (RefusesRun job) old.reads new.reads new.bad came h.refuses.counts less)
       (λ job e h. reading_read_rose words (say_files job) (say_asked words job e) (RefusesSay job) old.reads new.reads new.bad came h.counts less)
       (λ job e h. check_read_rose words old.reads new.reads new.bad job e came h.counts less)
+      (λ job e h. plan_read_rose words old.reads new.reads new.bad job e came h.counts less)
       (λ h. subst IsReadFaultOrFree (sym h.answer) tt)
       comes
 
@@ -325,6 +333,7 @@ module _ (words : List Text) (old new : Seen) (before now : List Box) (came : An
       (λ job e h. reading_write words (run_files job) (run_asked words job e) (RefusesRun job) old.reads new.reads new.bad came h.refuses.counts old.writes new.writes n m)
       (λ job e h. reading_write words (say_files job) (say_asked words job e) (RefusesSay job) old.reads new.reads new.bad came h.counts old.writes new.writes n m)
       (λ job e h. check_write words old.reads new.reads new.bad job e came h.counts old.writes new.writes n m)
+      (λ job e h. plan_write words old.reads new.reads new.bad job e came h.counts old.writes new.writes n m)
       (λ h. subst P (sym h.answer) tt)
       comes
 
@@ -336,6 +345,7 @@ module _ (words : List Text) (old new : Seen) (before now : List Box) (came : An
       (λ job e h. reading_large words (run_files job) (run_asked words job e) (RefusesRun job) old.reads new.reads new.bad came h.refuses.counts)
       (λ job e h. reading_large words (say_files job) (say_asked words job e) (RefusesSay job) old.reads new.reads new.bad came h.counts)
       (λ job e h. check_large words old.reads new.reads new.bad job e came h.counts)
+      (λ job e h. plan_large words old.reads new.reads new.bad job e came h.counts)
       (λ h. subst (TooLargeIs words) (sym h.answer) tt)
       comes
 
@@ -348,6 +358,7 @@ module _ (words : List Text) (old new : Seen) (before now : List Box) (came : An
       (λ job e h. absurd (subst (CountsReading (run_files job) (RefusesRun job) old.reads new.reads new.bad) is h.refuses.counts))
       (λ job e h. absurd (subst (CountsReading (say_files job) (RefusesSay job) old.reads new.reads new.bad) is h.counts))
       (λ job e h. absurd (subst (CountsCheck job old.reads new.reads new.bad) is h.counts))
+      (λ job e h. absurd (subst (CountsPlan job old.reads new.reads new.bad) is h.counts))
       (λ h. absurd (not_memory name (sym h.answer ∙ is)))
       comes
     where
@@ -362,6 +373,7 @@ module _ (words : List Text) (old new : Seen) (before now : List Box) (came : An
       (λ job e h. absurd (grew_not old.writes new.writes h.refuses.kept.writes less))
       (λ job e h. absurd (grew_not old.writes new.writes h.kept.writes less))
       (λ job e h. absurd (grew_not old.writes new.writes h.kept.writes less))
+      (λ job e h. absurd (grew_not old.writes new.writes h.kept.writes less))
       (λ h. absurd (grew_not old.writes new.writes h.kept.writes less))
       comes
 
@@ -371,6 +383,7 @@ module _ (words : List Text) (old new : Seen) (before now : List Box) (came : An
       (λ r e h. h.files)
       (λ job e h. build_failed words old new job e came h.leaves less)
       (λ job e h. h.refuses.kept.files)
+      (λ job e h. h.kept.files)
       (λ job e h. h.kept.files)
       (λ job e h. h.kept.files)
       (λ h. h.kept.files)
@@ -384,6 +397,7 @@ module _ (words : List Text) (old new : Seen) (before now : List Box) (came : An
       (λ job e h. reading_leaves words (run_files job) (run_asked words job e) (RefusesRun job) old.reads new.reads new.bad old.files new.files h.refuses.kept.files came h.refuses.counts)
       (λ job e h. reading_leaves words (say_files job) (say_asked words job e) (RefusesSay job) old.reads new.reads new.bad old.files new.files h.kept.files came h.counts)
       (λ job e h. check_leaves words old.reads new.reads new.bad job e old.files new.files h.kept.files came h.counts)
+      (λ job e h. plan_leaves words old.reads new.reads new.bad job e old.files new.files h.kept.files came h.counts)
       (λ h. given_leaves words old new before now came line h)
       comes
 
@@ -393,6 +407,7 @@ module _ (words : List Text) (old new : Seen) (before now : List Box) (came : An
       (λ r e h. kept_told words output old.files new.files h.files)
       (λ job e h. build_leaves_failed words old new job e came h.leaves)
       (λ job e h. kept_told words output old.files new.files h.refuses.kept.files)
+      (λ job e h. kept_told words output old.files new.files h.kept.files)
       (λ job e h. kept_told words output old.files new.files h.kept.files)
       (λ job e h. kept_told words output old.files new.files h.kept.files)
       (λ h. kept_told words output old.files new.files h.kept.files)
@@ -407,6 +422,7 @@ module _ (words : List Text) (old new : Seen) (before now : List Box) (came : An
       (λ job e h. reading_supply words (run_files job) (run_asked words job e) (RefusesRun job) old.reads new.reads new.bad before now came h.refuses.counts)
       (λ job e h. reading_supply words (say_files job) (say_asked words job e) (RefusesSay job) old.reads new.reads new.bad before now came h.counts)
       (λ job e h. check_supply words old.reads new.reads new.bad job e before now came h.counts)
+      (λ job e h. plan_supply words old.reads new.reads new.bad job e before now came h.counts)
       (λ h. subst (SupplyFaultIs words before now) (sym h.answer) tt)
       comes
 
@@ -419,5 +435,6 @@ module _ (words : List Text) (old new : Seen) (before now : List Box) (came : An
       (λ job e h. reading_line words (run_files job) (run_asked words job e) (RefusesRun job) old.reads new.reads new.bad came h.refuses.counts)
       (λ job e h. reading_line words (say_files job) (say_asked words job e) (RefusesSay job) old.reads new.reads new.bad came h.counts)
       (λ job e h. check_line words old.reads new.reads new.bad job e came h.counts)
+      (λ job e h. plan_line words old.reads new.reads new.bad job e came h.counts)
       (λ h. subst IsLine (sym h.answer) tt)
       comes

@@ -9,7 +9,7 @@ use Rattle.build_job.specs.Building.{AreFine}
 use Rattle.commands.specs.Headline.{IsKept, IsKeptTold}
 use Rattle.commands.specs.Left.{AskedAndBuilt, AsksNoWrite, LeavesTold}
 use Rattle.commands.specs.Words.{AskBuild}
-use Rattle.commands.proofs.Asks.{build_or_check, build_or_run, build_or_say}
+use Rattle.commands.proofs.Asks.{build_or_check, build_or_plan, build_or_run, build_or_say}
 
 module _ (agree : LoweredImagesAgree) (endure : LoweredImagesEndure) (images : AreLoweredImages) (held : AreLoweredHeld) (words : List Text) where
   -- the image that was built is the image of its program
@@ -53,4 +53,5 @@ module _ (agree : LoweredImagesAgree) (endure : LoweredImagesEndure) (images : A
       no_build : AsksNoWrite words → ⊥
       no_build (inl ran) = build_or_run words job ran.0 asks ran.1
       no_build (inr (inl said)) = build_or_say words job said.0 asks said.1
-      no_build (inr (inr checked)) = build_or_check words job checked.0 asks checked.1
+      no_build (inr (inr (inl checked))) = build_or_check words job checked.0 asks checked.1
+      no_build (inr (inr (inr planned))) = build_or_plan words job planned.0 asks planned.1

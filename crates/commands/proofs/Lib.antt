@@ -1,6 +1,7 @@
 pub mod Told
 pub mod Asks
 pub mod Reading
+pub mod PlannedClauses
 pub mod Clauses
 pub mod Words
 pub mod Dispatch

@@ -1,12 +1,13 @@
 -- What a whole call comes to: how its job ends, and what is put of it.
 use Rattle.std.specs.Prelude.{◌≡◌, ◌⊎◌, ℕ, List, [], Option, Some, None}
-use Rattle.job_parts.specs.Asked.{Request, Task, asked, build, check, run, say}
+use Rattle.job_parts.specs.Asked.{Request, Task, asked, build, check, plan, run, say}
 use Rattle.job_files.specs.Answers.{Answer, line_of, no_memory, not_built, usage}
 use Rattle.job_files.specs.Output.{IsNotPut, Puts, Sunk}
 use Rattle.job_files.specs.Stores.{IsUnwritten, Seen}
 use Rattle.job_files.specs.Text.{Text}
 use Rattle.build_job.specs.Ends.{BuildEnds}
 use Rattle.check_job.specs.Ends.{CheckEnds}
+use Rattle.plan_job.specs.Ends.{PlanEnds}
 use Rattle.run_job.specs.Boxes.{Box, IsPartlyLoaded}
 use Rattle.run_job.specs.Ends.{HasRun, RunEnds}
 use Rattle.run_job.specs.Run.{Run}
@@ -22,7 +23,7 @@ pub record IsRefusedAtOnce (refusal : Answer) (old new : Seen) (a : Answer) (lin
   pub reads : new.reads ≡ old.reads
   pub tells : line ≡ line_of [] a
 
--- how a job ends that puts one line, under the budget and the number of steps that are asked for
+-- how a job ends that puts its text at once, one line or the lines of a plan, under the budget and the number of steps that are asked for
 abbrev pub TaskEnds : Task → Option ℕ → ℕ → Seen → Seen → List Box → List Box → Answer → Text → Type 0
 TaskEnds (build program board image certificate) budget steps old new before now a line =
     BuildEnds (record { program = program; board = board; image = image; certificate = certificate; budget = budget }) old new a line × (now ≡ before)
@@ -32,6 +33,8 @@ TaskEnds (run image board input supplies) budget steps old new before now a line
     RunEnds (record { image = image; board = board; input = input; supplies = supplies; budget = budget; steps = steps }) old new before now a line
 TaskEnds (say program input) budget steps old new before now a line =
     SayEnds (record { program = program; input = input; steps = steps }) old new a line × (now ≡ before)
+TaskEnds (plan program board) budget steps old new before now a line =
+    PlanEnds (record { program = program; board = board; budget = budget }) old new a line × (now ≡ before)
 TaskEnds task budget steps old new before now a line = IsRefusedAtOnce not_built old new a line × (now ≡ before)
 
 -- how the job of the words ends
@@ -55,9 +58,9 @@ Comes words old new before now a line = ComesTo (asked words) old new before now
 
 -- ---- The call
 
--- The job came to an answer with its line. The line was put and is the answer's, or the output failed behind a front of it, or there was no
--- memory for the name of the output, and then nothing was put.
-pub record IsToldInOneLine (words : List Text) (old new : Seen) (before left : List Box) (sunk now : Sunk) (a : Answer) : Type 0 where
+-- The job came to an answer with its text: one line, or the lines of a plan. The text was put and is the answer's, or the output failed behind
+-- a front of it, or there was no memory for the name of the output, and then nothing was put.
+pub record IsToldAtOnce (words : List Text) (old new : Seen) (before left : List Box) (sunk now : Sunk) (a : Answer) : Type 0 where
   pub came : Answer
   pub line : Text
   pub comes : Comes words old new before left came line
@@ -76,8 +79,8 @@ pub record HasSaidAsked (words : List Text) (old new : Seen) (before left : List
   pub boxes : left ≡ before
   pub has_said : HasSaid job old new sunk.told now.told sunk.faults now.faults a
 
--- The call told one line, or a run or a say that the words ask for has begun and told its own.
+-- The call told its text at once, or a run or a say that the words ask for has begun and told its own.
 abbrev pub Called : List Text → Seen → Seen → List Box → List Box → Sunk → Sunk → Answer → Type 0
 Called words old new before left sunk now a =
-    IsToldInOneLine words old new before left sunk now a
+    IsToldAtOnce words old new before left sunk now a
     ⊎ (HasRunAsked words old new before left sunk now a ⊎ HasSaidAsked words old new before left sunk now a)

@@ -8,12 +8,14 @@ use Rattle.build_job.specs.Build.{Build}
 use Rattle.build_job.specs.Building.{BuildCauses}
 use Rattle.check_job.specs.Check.{Check}
 use Rattle.check_job.specs.Checking.{CheckCauses}
+use Rattle.plan_job.specs.Plan.{Plan}
+use Rattle.plan_job.specs.Planning.{PlanCauses}
 use Rattle.run_job.specs.Boxes.{Box}
 use Rattle.run_job.specs.Run.{Run}
 use Rattle.run_job.specs.Running.{RunCauses}
 use Rattle.say_job.specs.Say.{Say}
 use Rattle.say_job.specs.Saying.{SayCauses}
-use Rattle.commands.specs.Words.{AskBuild, AskCheck, AskRun, AskSay, AskUnbuilt}
+use Rattle.commands.specs.Words.{AskBuild, AskCheck, AskPlan, AskRun, AskSay, AskUnbuilt}
 
 -- a build that the words ask for comes to this answer
 abbrev pub AsksBuild : List Text → Files → Answer → Type 0
@@ -31,9 +33,13 @@ AsksSay words files a = (job : Say) × AskSay words job × SayCauses job files a
 abbrev pub AsksCheck : List Text → Files → Answer → Type 0
 AsksCheck words files a = (job : Check) × AskCheck words job × CheckCauses job files a
 
+-- a plan that the words ask for comes to this answer
+abbrev pub AsksPlan : List Text → Files → Answer → Type 0
+AsksPlan words files a = (job : Plan) × AskPlan words job × PlanCauses job files a
+
 -- what the words ask for comes to this answer
 abbrev pub AsksFor : List Text → Files → List Box → Answer → Type 0
-AsksFor words files boxes a = AsksBuild words files a ⊎ (AsksRun words files boxes a ⊎ (AsksSay words files a ⊎ AsksCheck words files a))
+AsksFor words files boxes a = AsksBuild words files a ⊎ (AsksRun words files boxes a ⊎ (AsksSay words files a ⊎ (AsksCheck words files a ⊎ AsksPlan words files a)))
 
 -- Why a call comes to each answer, by its words, the files and what the boxes hold as it begins; that the output failed says
 -- nothing of them.

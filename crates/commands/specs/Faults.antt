@@ -8,11 +8,12 @@ use Rattle.job_files.specs.Reads.{IsAmong, Wanted}
 use Rattle.job_files.specs.Text.{Text, output}
 use Rattle.build_job.specs.Build.{Build, build_files}
 use Rattle.check_job.specs.Check.{Check, check_files}
+use Rattle.plan_job.specs.Plan.{Plan, plan_files}
 use Rattle.run_job.specs.Boxes.{Box, BoxRose}
 use Rattle.run_job.specs.Run.{Run, run_files}
 use Rattle.say_job.specs.Say.{Say, say_files}
 use Rattle.commands.specs.Causes.{HasCause}
-use Rattle.commands.specs.Words.{AskBuild, AskCheck, AskRun, AskSay, AskUnbuilt}
+use Rattle.commands.specs.Words.{AskBuild, AskCheck, AskPlan, AskRun, AskSay, AskUnbuilt}
 
 -- the words of a build name the file as one that is read, which may have so many bytes
 abbrev pub IsBuildRead : List Text → Wanted → Type 0
@@ -30,9 +31,13 @@ IsSayRead words w = (job : Say) × AskSay words job × IsAmong (say_files job) w
 abbrev pub IsCheckRead : List Text → Wanted → Type 0
 IsCheckRead words w = (job : Check) × AskCheck words job × IsAmong (check_files job) w
 
+-- the words of a plan name the file as one that is read, which may have so many bytes
+abbrev pub IsPlanRead : List Text → Wanted → Type 0
+IsPlanRead words w = (job : Plan) × AskPlan words job × IsAmong (plan_files job) w
+
 -- the words name the file as one that is read, which may have so many bytes
 abbrev pub IsToRead : List Text → Wanted → Type 0
-IsToRead words w = IsBuildRead words w ⊎ (IsRunRead words w ⊎ (IsSayRead words w ⊎ IsCheckRead words w))
+IsToRead words w = IsBuildRead words w ⊎ (IsRunRead words w ⊎ (IsSayRead words w ⊎ (IsCheckRead words w ⊎ IsPlanRead words w)))
 
 -- the words name the file as the image
 abbrev pub IsToWrite : List Text → Text → Type 0

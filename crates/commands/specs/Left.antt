@@ -6,17 +6,18 @@ use Rattle.job_files.specs.Text.{Text, output}
 use Rattle.build_job.specs.Build.{Build}
 use Rattle.build_job.specs.Ends.{IsBuilt}
 use Rattle.check_job.specs.Check.{Check}
+use Rattle.plan_job.specs.Plan.{Plan}
 use Rattle.run_job.specs.Run.{Run}
 use Rattle.say_job.specs.Say.{Say}
-use Rattle.commands.specs.Words.{AskBuild, AskCheck, AskRun, AskSay}
+use Rattle.commands.specs.Words.{AskBuild, AskCheck, AskPlan, AskRun, AskSay}
 
 abbrev pub AskedAndBuilt : List Text → Files → Files → Type 0
 AskedAndBuilt words old new = (job : Build) × AskBuild words job × IsBuilt job old new
 
 abbrev pub AsksNoWrite : List Text → Type 0
-AsksNoWrite words = ((job : Run) × AskRun words job) ⊎ (((job : Say) × AskSay words job) ⊎ ((job : Check) × AskCheck words job))
+AsksNoWrite words = ((job : Run) × AskRun words job) ⊎ (((job : Say) × AskSay words job) ⊎ (((job : Check) × AskCheck words job) ⊎ ((job : Plan) × AskPlan words job)))
 
--- a run, a say and a check change no file
+-- a run, a say, a check and a plan change no file
 abbrev pub AskedAndKept : List Text → Files → Files → Type 0
 AskedAndKept words old new = AsksNoWrite words × (new ≡ old)
 

@@ -1,10 +1,11 @@
--- What the words of the command line ask for: a build, a check, a run, a say, or a job that isn't built yet.
+-- What the words of the command line ask for: a build, a check, a run, a say, a plan, or a job that isn't built yet.
 use Rattle.std.specs.Prelude.{◌≡◌, ℕ, List, Option, Some, Bool, true, false, map}
 use denote.Bor.{Bor}
-use Rattle.job_parts.specs.Asked.{Request, Task, asked, build, check, run, say}
+use Rattle.job_parts.specs.Asked.{Request, Task, asked, build, check, plan, run, say}
 use Rattle.job_files.specs.Text.{Text}
 use Rattle.build_job.specs.Build.{Build}
 use Rattle.check_job.specs.Check.{Check}
+use Rattle.plan_job.specs.Plan.{Plan}
 use Rattle.run_job.specs.Run.{Run}
 use Rattle.say_job.specs.Say.{Say}
 
@@ -18,6 +19,7 @@ is_built (build program board image certificate) = true
 is_built (check image certificate board) = true
 is_built (run image board input supplies) = true
 is_built (say program input) = true
+is_built (plan program board) = true
 is_built task = false
 
 -- the words ask for a job that isn't built
@@ -35,6 +37,11 @@ pub record AskBuild (words : List Text) (job : Build) : Type 0 where
 pub record AskCheck (words : List Text) (job : Check) : Type 0 where
   pub steps : ℕ
   pub asks : asked words ≡ Some (record { task = check job.image job.certificate job.board; budget = job.budget; steps = steps })
+
+-- the words ask for this plan, with any number of steps, which a plan doesn't use
+pub record AskPlan (words : List Text) (job : Plan) : Type 0 where
+  pub steps : ℕ
+  pub asks : asked words ≡ Some (record { task = plan job.program job.board; budget = job.budget; steps = steps })
 
 -- the words ask for this run
 pub record AskRun (words : List Text) (job : Run) : Type 0 where

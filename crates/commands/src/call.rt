@@ -12,6 +12,8 @@ ghost use Rattle.build_job.specs.Ends.{BuildEnds};
 ghost use Rattle.build_job.specs.InCode.{build_named};
 ghost use Rattle.check_job.specs.Ends.{CheckEnds};
 ghost use Rattle.check_job.specs.InCode.{check_named};
+ghost use Rattle.plan_job.specs.Ends.{PlanEnds};
+ghost use Rattle.plan_job.specs.InCode.{plan_named};
 ghost use Rattle.run_job.specs.Boxes.{FitBoxes, boxes_seen};
 ghost use Rattle.run_job.specs.Ends.{RunEnds};
 ghost use Rattle.run_job.specs.InCode.{run_named};
@@ -32,15 +34,16 @@ ghost use Rattle.commands.specs.Words.{AskBuild, words_in};
 use base_io::{Memory, Sink, Store};
 use build_job::{BuildJob, build};
 use check_job::{CheckJob, check};
-use job_files::{Ending, Status, put_line, told};
+use job_files::{Ending, Status, put_line, put_lines, told};
 use job_parts::{Asked, Job, read_words};
 use lowered_images::lowered_images_agree;
+use plan_job::{PlanJob, plan};
 use run_job::{OpenedRun, RunJob, open_run, show_run};
 use say_job::{OpenedSay, SayJob, open_say, show_say};
 use std::alloc::Global;
 use supply_trace::Supply;
 
-/// What a job comes to before anything is put: it ends and tells one line, or it is a run or a say that may begin.
+/// What a job comes to before anything is put: it ends and tells its lines, or it is a run or a say that may begin.
 #[derive(Drop)]
 pub enum Beginning {
     Ends(Ending),
@@ -52,8 +55,9 @@ pub enum Beginning {
 /// `build PROG BOARD IMAGE CERT` builds the image of a program for a board and writes it under IMAGE. Words without a reading, and
 /// those of a job that isn't built yet, touch no file. `check IMAGE CERT BOARD` tests an image by its certificate on a board. `run IMAGE BOARD INPUT SUPPLY...` emulates an image: the file of
 /// each SUPPLY is loaded into the box of its place, behind the rows that the box holds, and further boxes are dropped. As the call
-/// ends, `supplies` holds the boxes that weren't dropped. `say PROG INPUT` runs the plain meaning of a C program. It puts one line
-/// that tells how the job ended, or the lines of a run or of a say.
+/// ends, `supplies` holds the boxes that weren't dropped. `say PROG INPUT` runs the plain meaning of a C program. `plan PROG BOARD`
+/// tells the plan of a program's checkpoints on a board. It puts one line that tells how the job ended, or the lines of a run, of a say or of
+/// a plan.
 pub fn schematic<S: Store, K: Sink>(
     alloc: Global,
     words: &[&str],
@@ -188,7 +192,14 @@ fn job_begun<S: Store>(
             };
             check_begun(alloc, &job, store)
         }
-        Job::Plan { .. } => unbuilt(alloc),
+        Job::Plan { program, board } => {
+            let job = PlanJob {
+                program,
+                board,
+                budget: asked.budget,
+            };
+            plan_begun(alloc, &job, store)
+        }
         Job::Gen { .. } => unbuilt(alloc),
     }
 }
@@ -243,6 +254,26 @@ fn check_begun<S: Store>(alloc: Global, job: &CheckJob, store: &mut S) -> Result
         (seen_of S.files S.read_faults S.write_faults S.bad_name store.new)) }
 {
     match check(alloc, job, store) {
+        Ok(ending) => Ok(Beginning::Ends(ending)),
+        Err(e) => Err(e),
+    }
+}
+
+// What a plan comes to: it always ends.
+fn plan_begun<S: Store>(alloc: Global, job: &PlanJob, store: &mut S) -> Result<Beginning, Memory>
+    ensures { MatchResult result
+        (λ e. MatchBeginning e
+        (λ ending. PlanEnds (plan_named job.now)
+        (seen_of S.files S.read_faults S.write_faults S.bad_name store.old)
+        (seen_of S.files S.read_faults S.write_faults S.bad_name store.new)
+        (answer_of ending.status) (string_bytes ending.line))
+        (λ opened. ⊥)
+        (λ opened. ⊥))
+        (λ _. IsUnwritten
+        (seen_of S.files S.read_faults S.write_faults S.bad_name store.old)
+        (seen_of S.files S.read_faults S.write_faults S.bad_name store.new)) }
+{
+    match plan(alloc, job, store) {
         Ok(ending) => Ok(Beginning::Ends(ending)),
         Err(e) => Err(e),
     }
@@ -335,7 +366,7 @@ fn words_begun<S: Store>(
     }
 }
 
-// Puts the line of an ending.
+// Puts the lines of an ending.
 fn put_ending<K: Sink>(ending: Ending, name: String, sink: &mut K) -> Status
     requires output { string_bytes name ≡ output }
     ensures { Puts (answer_of ending.status) (string_bytes ending.line)
@@ -343,7 +374,7 @@ fn put_ending<K: Sink>(ending: Ending, name: String, sink: &mut K) -> Status
         (sunk_of K.taken K.faults sink.new)
         (answer_of result) }
 {
-    put_line(name, ending.status, ending.line.as_str(), sink)
+    put_lines(name, ending.status, ending.line.as_str(), sink)
 }
 
 // The whole call.

@@ -2,6 +2,7 @@ pub mod Telling
 pub mod Gathering
 pub mod InOrder
 pub mod Refusing
+pub mod Lines
 pub mod OneBoard
 pub mod OneImage
 pub mod OneInput

@@ -24,6 +24,7 @@ pub data Refusal : Type 0 where
   image_refused : ImageRefusal → ℕ → Refusal
   text_refused : Text → ℕ → Refusal
   data_too_large : ℕ → ℕ → Refusal
+  calls_too_deep : ℕ → ℕ → Refusal
   budget_too_small : OpKind → Place → ℕ → ℕ → Refusal
   code_too_large : ℕ → ℕ → Refusal
   certificate_refused : Rule → ℕ → ℤ → ℤ → Refusal
@@ -35,6 +36,7 @@ refusal_of (refusal.Board fault key) = board_refused fault (string_bytes key)
 refusal_of (refusal.Image fault at) = image_refused fault at
 refusal_of (refusal.Text name at) = text_refused (string_bytes name) at
 refusal_of (refusal.DataTooLarge need room) = data_too_large need room
+refusal_of (refusal.CallsTooDeep need room) = calls_too_deep need room
 refusal_of (refusal.BudgetTooSmall op place need budget) = budget_too_small op place need budget
 refusal_of (refusal.CodeTooLarge need room) = code_too_large need room
 refusal_of (refusal.Certificate rule address left right) = certificate_refused rule address left right
@@ -47,6 +49,7 @@ refusal_code (board_refused fault key) = 7
 refusal_code (image_refused fault at) = 11
 refusal_code (text_refused name at) = 13
 refusal_code (data_too_large need room) = 9
+refusal_code (calls_too_deep need room) = 9
 refusal_code (budget_too_small op place need budget) = 8
 refusal_code (code_too_large need room) = 10
 refusal_code (certificate_refused rule address left right) = 12
@@ -93,6 +96,7 @@ refusal_line (board_refused fault key) = codes "board refused: " ++ (board_text 
 refusal_line (image_refused fault at) = codes "image refused: " ++ (image_text fault ++ (codes " at " ++ (decimal at ++ codes "\n")))
 refusal_line (text_refused name at) = codes "text refused: " ++ (name ++ (codes " at " ++ (decimal at ++ codes "\n")))
 refusal_line (data_too_large need room) = codes "data too large: " ++ (decimal need ++ (codes " of " ++ (decimal room ++ codes "\n")))
+refusal_line (calls_too_deep need room) = codes "calls too deep: " ++ (decimal need ++ (codes " of " ++ (decimal room ++ codes "\n")))
 refusal_line (budget_too_small op place need budget) =
     codes "budget too small: " ++ (operation_text op ++ (codes " at " ++ (decimal place.line ++ (codes ":" ++ (decimal place.column ++ (codes " needs " ++ (decimal need ++ (codes " of " ++ (decimal budget ++ codes "\n")))))))))
 refusal_line (code_too_large need room) = codes "code too large: " ++ (decimal need ++ (codes " of " ++ (decimal room ++ codes "\n")))

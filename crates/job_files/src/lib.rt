@@ -14,7 +14,7 @@ mod rules;
 mod status;
 
 pub use boards::board_with;
-pub use ending::{Ending, put_line, told};
+pub use ending::{Ending, put_line, put_lines, told};
 pub use files::{TwoTexts, add, read, read_two};
 pub use images::image_of;
 pub use inputs::{input_of, text_refused};

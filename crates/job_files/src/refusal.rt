@@ -82,6 +82,11 @@ pub enum Refusal {
         need: u32,
         room: u32,
     },
+    /// So many calls nest below `main`, and there is room for fewer.
+    CallsTooDeep {
+        need: u32,
+        room: u32,
+    },
     /// An operation, which comes from `place`, needs so many energy units with a wake and a sleep, and the board's budget is less.
     BudgetTooSmall {
         op: OpKind,
@@ -114,7 +119,7 @@ impl Refusal {
             Refusal::Board { .. } => 7,
             Refusal::Image { .. } => 11,
             Refusal::Text { .. } => 13,
-            Refusal::DataTooLarge { .. } => 9,
+            Refusal::DataTooLarge { .. } | Refusal::CallsTooDeep { .. } => 9,
             Refusal::BudgetTooSmall { .. } => 8,
             Refusal::CodeTooLarge { .. } => 10,
             Refusal::Certificate { .. } => 12,
@@ -134,6 +139,9 @@ pub fn refusal_line(alloc: Global, refusal: &Refusal) -> Result<String, AllocErr
         Refusal::Text { name, at } => format!(in alloc; "text refused: {name} at {at}\n"),
         Refusal::DataTooLarge { need, room } => {
             format!(in alloc; "data too large: {need} of {room}\n")
+        }
+        Refusal::CallsTooDeep { need, room } => {
+            format!(in alloc; "calls too deep: {need} of {room}\n")
         }
         Refusal::BudgetTooSmall {
             op,

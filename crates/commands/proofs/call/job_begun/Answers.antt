@@ -1,7 +1,7 @@
 use Rattle.std.proofs.Common.{ap}
 use Rattle.job_parts.specs.Asked.{job_task}
 use Rattle.commands.specs.Words.{is_built}
-use Rattle.commands.proofs.Begins.{build_comes, check_comes, run_comes, run_fits, unbuilt_begins}
+use Rattle.commands.proofs.Begins.{build_comes, check_comes, plan_comes, run_comes, run_fits, unbuilt_begins}
 use Rattle.commands.proofs.SaidCalls.{say_comes}
 use Rattle.commands.proofs.call.job_begun.Goals as goal
 
@@ -21,7 +21,7 @@ pub returns-in-Check : goal.returns-in-Check
 returns-in-Check g c = check_comes _ c.args.asked.now.steps _ _ _ _ (ap job_task c.in-Check.is) _ c.check_begun.ensures
 
 pub returns-in-Plan : goal.returns-in-Plan
-returns-in-Plan g c = unbuilt_begins _ c.args.asked.now.budget c.args.asked.now.steps _ _ (ap (λ j. is_built (job_task j)) c.in-Plan.is) _ c.unbuilt.ensures
+returns-in-Plan g c = plan_comes _ c.args.asked.now.steps _ _ _ _ (ap job_task c.in-Plan.is) _ c.plan_begun.ensures
 
 pub returns-in-Gen : goal.returns-in-Gen
-returns-in-Gen g c = unbuilt_begins _ c.args.asked.now.budget c.args.asked.now.steps _ _ (ap (λ j. is_built (job_task j)) c.in-Gen.is) _ c.unbuilt-in-Gen.ensures
+returns-in-Gen g c = unbuilt_begins _ c.args.asked.now.budget c.args.asked.now.steps _ _ (ap (λ j. is_built (job_task j)) c.in-Gen.is) _ c.unbuilt.ensures

@@ -1,0 +1,2 @@
+-- how large lowered graphs are
+pub mod Counts

@@ -1,0 +1,4 @@
+-- the lines
+pub mod Report
+-- what they tell
+pub mod Planned
