@@ -1,0 +1,4 @@
+-- sections and positions as the code holds them
+pub mod Told
+-- positions by the parts of a section
+pub mod Listed
