@@ -29,7 +29,7 @@ use Rattle.laid_code.specs.Chosen.{Piece, chosen_at, chosen_blocks, chosen_code}
 use Rattle.graph_code.specs.Homes.{data_bytes, most_data}
 use Rattle.graph_code.specs.Pieces.{Template, address_of, jumps_to, pieces, pieces_by}
 use Rattle.graph_code.proofs.HomeLemmas.{objects_have_homes}
-use Rattle.op_cost.specs.Templates.{Counted, Homes, array_of, binary, by, code_of, core, index_code, length_in, once, operand_place, place_of, result, source, stores, template_by, unary, unless}
+use Rattle.op_cost.specs.Templates.{Counted, Homes, array_of, binary, by, code_of, core, index_code, length_in, once, operand_place, place_of, result, source, stores, template, template_by, unary, unless}
 use Rattle.emit_templates.specs.Placed.{HasArray, HasDest, HasHome, HasHomes, home_in}
 use Rattle.each_image.specs.Image.{code_words, data_blocks, fram_homes, fram_template, graph_blocks}
 use Rattle.each_image.proofs.Ascending.{are_images}
@@ -162,7 +162,7 @@ module _ (g : Graph) (places : List ℕ) (are : places ≡ addresses_from 0x4400
   array_has true (Some u) h = has_place u.object u.length h.0
   array_has false array h = subst (λ x. HasArray places x) (sym h) tt
 
-  has_homes : (op : Op) → OpFits g op → HasHomes places op
+  pub has_homes : (op : Op) → OpFits g op → HasHomes places op
   has_homes op fits = record {
     a = operand_has (parts_of op.kind).a op.a fits.a;
     b = operand_has (parts_of op.kind).b op.b fits.b;
@@ -170,14 +170,18 @@ module _ (g : Graph) (places : List ℕ) (are : places ≡ addresses_from 0x4400
     array = array_has (parts_of op.kind).array op.array fits.array;
   }
 
-  template_same : (op : Op) → OpFits g op → (target : ℕ) → placed_template places target op ≡ fram_template g target op
-  template_same op fits target = ap code_of (same_by (home_in places) (fram_homes g) target op (record {
+  -- with how often each instruction counts
+  pub counted_same : (op : Op) → OpFits g op → (target : ℕ) → template (home_in places) target op ≡ template (fram_homes g) target op
+  counted_same op fits target = same_by (home_in places) (fram_homes g) target op (record {
     a = source_same (parts_of op.kind).a op.a fits.a;
     b = source_same (parts_of op.kind).b op.b fits.b;
     dest = dest_same (parts_of op.kind).dest op.dest fits.dest;
     array = array_same (parts_of op.kind).array op.array fits.array;
     variable = variable_same (parts_of op.kind).a op.a fits.a;
-  }) op.kind)
+  }) op.kind
+
+  template_same : (op : Op) → OpFits g op → (target : ℕ) → placed_template places target op ≡ fram_template g target op
+  template_same op fits target = ap code_of (counted_same op fits target)
 
   -- ---- of each operation
 

@@ -14,5 +14,7 @@ mod lists;
 mod operations;
 mod places;
 
+pub use data::places_of;
 pub use each::emit_each;
 pub use fault::{EmitFault, Room};
+pub use heads::{heads_of, is_one_stretch};
