@@ -21,4 +21,4 @@ run_moment b input m (event ∷ events) t h =
 pub every_run : (blocks : List Block) (c : Certificate) (b : Board) → RunsSafely blocks c b → EveryRunIsSafe blocks c b
 every_run blocks c b safe input events t words generous run =
     let made = run_moment b input (first run.0) events t run.3 in
-    (made.0, made.1, safe input run.0 events made.0 words run.1 run.2 generous made.2)
+    (made.0, made.1, made.2, safe input run.0 events made.0 words run.1 run.2 generous made.2)

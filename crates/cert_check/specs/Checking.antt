@@ -29,8 +29,9 @@ RunsSafely blocks c b =
     (input : List ℕ) (s : State) (events : List Event) (m : Moment) →
     All (λ w. w < 65536) input → IsFirst s → HoldsBlocks s blocks → Generous b.budget events → MomentRun b input (first s) events m → Safe c.stretches b m
 
--- So is every run of the machine itself: it is what such a moment has run.
+-- So is every run of the machine itself: it is what a moment has run that the same events lead to, with what was written and read on the way.
 abbrev pub EveryRunIsSafe : List Block → Certificate → Board → Type 0
 EveryRunIsSafe blocks c b =
     (input : List ℕ) (events : List Event) (t : Trail) →
-    All (λ w. w < 65536) input → Generous b.budget events → RunOf blocks b input events t → (m : Moment) × (m.trail ≡ t) × Safe c.stretches b m
+    All (λ w. w < 65536) input → Generous b.budget events → (run : RunOf blocks b input events t) →
+    (m : Moment) × (m.trail ≡ t) × MomentRun b input (first run.0) events m × Safe c.stretches b m
