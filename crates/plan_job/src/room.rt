@@ -2,7 +2,7 @@
 ghost use Rattle.std.specs.Prelude.{◌≡◌, ◌<◌, ◌*◌, ◌^◌, length, sum_by, MatchResult};
 ghost use Rattle.flow_graph.specs.Rules.{IsGraph};
 ghost use Rattle.job_files.specs.Answers.{IsRefusedFor, answer_of};
-ghost use Rattle.plan_job.specs.Room.{HasRoom, IsDeep, LacksDepth, LacksRoom};
+ghost use Rattle.plan_job.specs.Room.{HasRoom, HasRoomForCalls, LacksRoomForCalls, LacksRoom};
 
 use call_depth::call_depth;
 use flow_graph::{Graph, Object};
@@ -12,7 +12,7 @@ use std::alloc::Global;
 /// The bytes from 0x4400 to the call stack.
 const MOST_DATA: u32 = 15_104;
 
-/// As many returns as the call stack holds.
+/// So many calls may nest below `main`.
 const MOST_CALLS: u32 = 64;
 
 // The bytes of these objects.
@@ -29,11 +29,11 @@ fn data_bytes(objects: &[Object]) -> u32
     2 * words
 }
 
-// Whether the calls of a graph whose data has room nest deeper than there is room for.
+// Whether the calls of a graph have room; if not, the status that refuses it.
 fn depth_fits(alloc: Global, g: &Graph) -> Result<(), Status>
     requires rules { IsGraph g.now }
     requires functions { length g.now.functions < 2 ^ 32 }
-    ensures { MatchResult result (λ _. IsDeep g.now) (λ s. IsRefusedFor (LacksDepth g.now) (answer_of s)) }
+    ensures { MatchResult result (λ _. HasRoomForCalls g.now) (λ s. IsRefusedFor (LacksRoomForCalls g.now) (answer_of s)) }
 {
     match call_depth(alloc, g) {
         Ok(need) => {

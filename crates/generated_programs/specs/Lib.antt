@@ -1,0 +1,2 @@
+-- the text of a generated program
+pub mod Generated
