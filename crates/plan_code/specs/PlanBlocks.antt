@@ -1,5 +1,5 @@
 -- The code of each position, where it stands, and the image of a graph with a plan.
-use Rattle.std.specs.Prelude.{ℕ, zero, suc, ◌+◌, ◌-◌, ◌*◌, ◌==◌, if◌then◌else◌, Bool, true, false, Option, Some, None, List, [], ◌∷◌, ◌++◌, flat_map, negsuc, pos, slice_get}
+use Rattle.std.specs.Prelude.{ℕ, zero, suc, ◌+◌, ◌-◌, ◌*◌, ◌==◌, if◌then◌else◌, Bool, true, false, List, [], ◌∷◌, ◌++◌, negsuc, pos}
 use Rattle.ti_txt.specs.Image.{Block}
 use Rattle.msp430_isa.specs.declared.instr.Src.TheVariants.{Index as FromIndex, Abs as FromAbs, Imm, Short}
 use Rattle.msp430_isa.specs.declared.instr.Dst.TheVariants.{Reg as ToReg, Index as ToIndex, Abs as ToAbs}
@@ -7,7 +7,6 @@ use Rattle.msp430_isa.specs.declared.instr.TwoOp.TheVariants.{Sub as SUB}
 use Rattle.msp430_isa.specs.declared.instr.Cond.TheVariants.{Jeq as JEQ, Jne as JNE}
 use Rattle.msp430_isa.specs.declared.instr.Instr.{Instr}
 use Rattle.msp430_isa.specs.declared.instr.Instr.TheVariants.{Two, Jump}
-use Rattle.msp430_isa.specs.Encoding.{words_of}
 use Rattle.msp430_machine.specs.Addresses.{gate, code_start, reset_vector, sram_start}
 use Rattle.home_planner.specs.Sets.{is_in}
 use Rattle.op_cost.specs.Templates.{Homes, code_of, template}

@@ -1,5 +1,5 @@
 -- Two scopes one behind the other: what is spent in both is no more than what is spent in each.
-use Rattle.std.proofs.Common.{◌≡◌, ◌⊎◌, ℕ, zero, suc, ◌+◌, ◌-◌, ◌<◌, ◌≤◌, Bool, true, false, refl, sym, ap, ◌∙◌, subst, arith, inl, inr}
+use Rattle.std.proofs.Common.{◌≡◌, ◌⊎◌, ℕ, zero, suc, ◌+◌, ◌-◌, ◌≤◌, true, false, sym, ap, ◌∙◌, subst, arith, inl, inr}
 use Rattle.std.specs.Prelude.{◌||◌, if◌then◌else◌}
 use Rattle.laid_code.specs.Flows.{Memory, On, Away, Flow, written}
 use Rattle.stretched_code.proofs.Scopes.{Scope, Within, Fits}

@@ -1,0 +1,2 @@
+//! The images of plans.
+#![tactic(auto)]
